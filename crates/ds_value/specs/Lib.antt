@@ -1,0 +1,4 @@
+pub mod Canonical
+pub mod Kinds
+pub mod Names
+pub mod Values

@@ -1,0 +1,18 @@
+//! Values of records, and the small types that contracts see as lists.
+#![tactic(auto)]
+
+mod bytes;
+mod copied;
+mod items;
+mod kind;
+mod memory;
+mod name;
+mod value;
+
+pub use bytes::Bytes;
+pub use copied::{Copied, copied_items};
+pub use items::Items;
+pub use kind::{Kind, fits};
+pub use memory::NoMemory;
+pub use name::{Name, Name0};
+pub use value::{Value, cmp, copy_value};
