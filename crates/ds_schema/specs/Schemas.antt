@@ -1,5 +1,5 @@
 -- Schemas, and the rows that fit them.
-use Rattle.std.specs.Prelude.{◌≡◌, ◌≤◌, ◌⊎◌, ℕ, Bool, true, false, ◌&&◌, List, [], ◌∷◌, length}
+use Rattle.std.specs.Prelude.{◌≡◌, ◌≤◌, ℕ, Bool, true, false, ◌&&◌, List, [], ◌∷◌, length}
 use Rattle.std.specs.List.{list_all, AllByRecursion}
 use Rattle.ds_value.specs.declared.value.Value.{Value}
 use Rattle.ds_value.specs.declared.value.Value.TheVariants.{Null, Int, UInt, Dec, Text, Date}

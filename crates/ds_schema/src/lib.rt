@@ -4,7 +4,9 @@
 mod key;
 mod row;
 mod schema;
+mod schema_text;
 
 pub use key::{Key, KeyList};
 pub use row::{Row, copy_row, project};
 pub use schema::{Field, Schema};
+pub use schema_text::print_schema;

@@ -1,0 +1,5 @@
+//! Schemas as text.
+
+mod printing;
+
+pub use printing::print_schema;
