@@ -1,0 +1,9 @@
+pub mod Columns
+pub mod Destinations
+pub mod Forms
+pub mod Operators
+pub mod Parts
+pub mod Placing
+pub mod Runs
+pub mod Shapes
+pub mod States

@@ -1,8 +1,16 @@
-//! Flows: operators with their options, and the links between them.
+//! Flows: operators with their options, the links between them, and what is known of a link.
 #![tactic(auto)]
 
+mod columns;
 mod flow;
 mod op_kind;
+mod place;
+mod route;
+mod state;
 
+pub use columns::ColSet;
 pub use flow::{Flag, Flow, LinkSpec, Mark, Method, OpSpec};
-pub use op_kind::{AggSpec, Missing, OpKind, SetSpec};
+pub use op_kind::{AggSpec, OpKind, SetSpec};
+pub use place::Place;
+pub use route::{Choice, Route};
+pub use state::{Spot, State};

@@ -1,14 +1,6 @@
 use ds_schema::{Field, Schema};
 use ds_value::{Bytes, Copied, Items, Name, NoMemory};
-
-/// What a lookup does with a row whose key the reference lacks.
-#[derive(Clone, Copy, Debug, PartialEq, Eq)]
-pub enum Missing {
-    Continue,
-    Drop,
-    Fail,
-    Reject,
-}
+use op_base::Missing;
 
 /// A column that a transform sets, and the bytes of its expression.
 #[derive(Debug, Drop)]

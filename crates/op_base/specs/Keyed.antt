@@ -1,5 +1,5 @@
 -- What is done for each key value: the rows that have it in each input, and the order of the values.
-use Rattle.std.specs.Prelude.{ℕ, Bool, true, false, not, List, [], ◌∷◌, ◌++◌, map}
+use Rattle.std.specs.Prelude.{ℕ, zero, suc, Bool, true, false, not, List, [], ◌∷◌, ◌++◌, map}
 use Rattle.std.specs.Ordering.{is_eq}
 use Rattle.std.specs.Cmp.Lexicographic.{slice_cmp}
 use Rattle.std.specs.List.{filter, flat_map}
@@ -7,7 +7,7 @@ use Rattle.ds_value.specs.declared.value.Value.{Value}
 use Rattle.ds_value.specs.Values.{value_cmp}
 use Rattle.ds_schema.specs.declared.key.Key.{Key}
 use Rattle.ds_schema.specs.Rows.{cols, ways, val, sub, vals_cmp}
-use Rattle.op_base.specs.Columns.{Row}
+use Rattle.op_base.specs.Columns.{Row, is_in}
 use Rattle.op_base.specs.Lists.{firsts}
 
 -- the values that rows have in the keys' columns, each once, in the order of the keys
@@ -50,3 +50,13 @@ in_order true ways qs = seen qs
 -- what a rule gives for each value of any input
 abbrev pub for_values : {Y : Type 0} → Bool → List Bool → List (List ℕ) → (List Value → List (List Row) → List Y) → List (List Row) → List Y
 for_values hashes ways columns rule inputs = flat_map (λ v. rule v (subs columns v inputs)) (in_order hashes ways (keys_in columns inputs))
+
+-- the keys of input i
+abbrev pub get_keys : List (List Key) → ℕ → List Key
+get_keys [] i = []
+get_keys (K ∷ keys) zero = K
+get_keys (K ∷ keys) (suc i) = get_keys keys i
+
+-- the keys whose columns aren't in the first
+abbrev pub without : List Key → List Key → List Key
+without keys old = filter (λ (k : Key). not (is_in k.col (cols keys))) old
