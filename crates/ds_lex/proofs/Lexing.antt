@@ -1,11 +1,11 @@
 -- How lexing goes on behind a piece.
-use Rattle.std.proofs.Common.{◌≡◌, ◌<◌, ◌≤◌, ◌+◌, ◌-◌, ℕ, zero, suc, List, [], ◌∷◌, ◌++◌, length, drop, refl, sym, ap, ◌∙◌, arith, rules, Option, Some, None, append_assoc, drop-cons, add-one, take, length-drop}
+use Rattle.std.proofs.Common.{◌≡◌, ◌<◌, ◌≤◌, ◌+◌, ◌-◌, ℕ, zero, suc, List, [], ◌∷◌, ◌++◌, length, drop, refl, sym, ap, ◌∙◌, arith, Some, None, append_assoc, take, length-drop}
 use Rattle.std.proofs.lemmas.List.{drop-drop, take_all}
 use Rattle.ds_lex.specs.declared.token.Mode.{Mode}
 use Rattle.ds_lex.specs.declared.token.Sort.{Sort}
 use Rattle.ds_lex.specs.declared.token.Token.{Token}
 use Rattle.ds_lex.specs.declared.token.Piece.TheVariants.{Gap, Part}
-use Rattle.ds_lex.specs.Pieces.{piece_at, piece_from, size_of}
+use Rattle.ds_lex.specs.Pieces.{piece_at}
 use Rattle.ds_lex.specs.Lexed.{Lexed, lexed_from, lexed, with_token, after_piece}
 
 abbrev pub with_front : List Token → Lexed → Lexed

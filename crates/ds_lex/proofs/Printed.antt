@@ -1,5 +1,5 @@
 -- A printed word before a blank is lexed as itself.
-use Rattle.std.proofs.Common.{◌≡◌, ◌<◌, ◌≤◌, ◌+◌, ◌-◌, ◌||◌, ◌&&◌, ℕ, zero, suc, List, [], ◌∷◌, ◌++◌, length, drop, refl, sym, ap, ◌∙◌, arith, rules, Option, Some, None, Bool, true, false, cond, take_while, eqb}
+use Rattle.std.proofs.Common.{◌≡◌, ◌+◌, ℕ, List, [], ◌∷◌, ◌++◌, length, refl, ap, ◌∙◌, arith, Some, Bool, true, false, take_while, eqb}
 use Rattle.std.specs.List.{list_all}
 use Rattle.std.specs.Cmp.{second_so, first_so}
 use Rattle.std.proofs.lemmas.Bool.{cond-true}
@@ -7,8 +7,8 @@ use Rattle.std.proofs.lemmas.Bool.Decides.{nat_tests}
 use Rattle.std.proofs.lemmas.List.Sums.{take_while-cons}
 use Rattle.ds_lex.specs.declared.token.Mode.{Mode}
 use Rattle.ds_lex.specs.declared.token.Sort.TheVariants.{Word}
-use Rattle.ds_lex.specs.declared.token.Piece.TheVariants.{Gap, Part}
-use Rattle.ds_lex.specs.Pieces.{piece_at, piece_from, count_front, is_word_byte, opens_word, is_blank}
+use Rattle.ds_lex.specs.declared.token.Piece.TheVariants.{Part}
+use Rattle.ds_lex.specs.Pieces.{piece_at, is_word_byte, opens_word, is_blank}
 
 -- the bytes that pass, up to the first that doesn't
 pub front_of : (p : ℕ → Bool) (xs : List ℕ) (y : ℕ) (ys : List ℕ) → list_all p xs ≡ true → p y ≡ false → take_while p (xs ++ y ∷ ys) ≡ xs

@@ -1,5 +1,5 @@
 -- The tokens of a text, and the first place where neither a separator nor a token begins.
-use Rattle.std.specs.Prelude.{◌≡◌, ℕ, ◌+◌, ◌-◌, suc, zero, List, [], ◌∷◌, Option, Some, None, Result, Ok, Err}
+use Rattle.std.specs.Prelude.{ℕ, ◌+◌, ◌-◌, suc, zero, List, [], ◌∷◌, Option, Some, None}
 use Rattle.ds_lex.specs.declared.token.Mode.{Mode}
 use Rattle.ds_lex.specs.declared.token.Token.{Token}
 use Rattle.ds_lex.specs.declared.token.Piece.{Piece}

@@ -1,9 +1,8 @@
 -- What begins at the front of some bytes: a separator, a token, or nothing.
-use Rattle.std.specs.Prelude.{ℕ, ◌<◌, ◌≤◌, ◌+◌, suc, zero, List, [], ◌∷◌, length, drop, take, take_while, position, Option, Some, None, Bool, true, false, ◌&&◌, ◌||◌, not, ◌==◌, nat_lt, nat_le, if◌then◌else◌}
+use Rattle.std.specs.Prelude.{ℕ, ◌<◌, ◌≤◌, ◌+◌, List, [], ◌∷◌, length, drop, take, take_while, position, Option, Some, None, Bool, true, false, ◌&&◌, ◌||◌, not, ◌==◌, nat_le, if◌then◌else◌}
 use Rattle.std.specs.List.{list_all, list_any}
 use Rattle.ds_lex.specs.declared.token.Mode.{Mode}
 use Rattle.ds_lex.specs.declared.token.Mode.TheVariants.{Osh, Inner}
-use Rattle.ds_lex.specs.declared.token.Sort.{Sort}
 use Rattle.ds_lex.specs.declared.token.Sort.TheVariants.{Word, Opt, Number, Quoted, Sign}
 use Rattle.ds_lex.specs.declared.token.Piece.{Piece}
 use Rattle.ds_lex.specs.declared.token.Piece.TheVariants.{Gap, Part}

@@ -1,5 +1,5 @@
 -- What the calls answer, as what is lexed.
-use Rattle.std.specs.Prelude.{◌≡◌, ℕ, Some, None}
+use Rattle.std.specs.Prelude.{◌≡◌, Some}
 use Rattle.ds_lex.specs.declared.scanning.Scanned.{Scanned}
 use Rattle.ds_lex.specs.declared.token.LexFault.{LexFault}
 use Rattle.ds_lex.specs.declared.token.LexFault.TheVariants.{BadToken, Memory}

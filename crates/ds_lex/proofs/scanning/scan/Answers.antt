@@ -1,4 +1,4 @@
-use Rattle.std.proofs.Common.{ap, sym, ◌∙◌, subst}
+use Rattle.std.proofs.Common.{sym}
 use Rattle.ds_lex.proofs.Lexing.{within_more, gap_more, part_more}
 use Rattle.ds_lex.proofs.scanning.scan.Goals as goal
 
