@@ -1,0 +1,10 @@
+pub mod Streams
+pub mod Core
+pub mod Plans
+pub mod Lists
+pub mod Operators
+pub mod Chains
+pub mod Batches
+pub mod Wiring
+pub mod Laws
+pub mod Arrivals
