@@ -15,7 +15,7 @@ pub enum Kind {
     Date,
 }
 
-fn fits_int(bits: u8, n: i64) -> bool
+pub fn fits_int(bits: u8, n: i64) -> bool
     requires { IsBits bits }
     ensures { result ≡ is_between (least_int bits) (greatest_int bits) n }
 {
@@ -27,7 +27,7 @@ fn fits_int(bits: u8, n: i64) -> bool
     }
 }
 
-fn fits_uint(bits: u8, n: u64) -> bool
+pub fn fits_uint(bits: u8, n: u64) -> bool
     requires { IsBits bits }
     ensures { result ≡ nat_lt n (2 ^ bits) }
 {
@@ -39,7 +39,7 @@ fn fits_uint(bits: u8, n: u64) -> bool
     }
 }
 
-fn ten_to(digits: u8) -> u128
+pub fn ten_to(digits: u8) -> u128
     requires { digits ≤ 38 }
     ensures { result ≡ 10 ^ digits }
 {

@@ -7,6 +7,7 @@ mod items;
 mod kind;
 mod memory;
 mod name;
+mod numeral;
 mod value;
 
 pub use bytes::Bytes;
