@@ -2,10 +2,10 @@
 
 ghost use Rattle.std.specs.Prelude.{◌≡◌, ◌==◌, length, OnErr};
 ghost use Rattle.std.specs.Option.{option_map};
-ghost use Rattle.ds_lex.specs.Lexemes.{lexeme, lexemes, place_of};
+ghost use Rattle.ds_lex.specs.Lexemes.{lexeme, lexemes};
 ghost use Rattle.ds_lex.specs.Reading.{accept_at, expect_at, finish_at, first_of, is_sort, moved, next_place, sort_at, token_at};
 
-use crate::lexeme::{End, Lexeme};
+use crate::lexeme::Lexeme;
 use crate::refusal::Refusal;
 use crate::token::Sort;
 use std::marker::Model;
@@ -67,11 +67,11 @@ impl<'a> Cursor<'a> {
     }
 
     /// The place of the next token, or else of the end.
-    pub fn place(&self, end: End) -> usize
-        ensures { result ≡ next_place (place_of end) self.now }
+    pub fn place(&self, end: usize) -> usize
+        ensures { result ≡ next_place end self.now }
     {
         match self.rest {
-            [] => end.place(),
+            [] => end,
             [token, ..] => token.at,
         }
     }

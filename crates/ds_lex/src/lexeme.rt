@@ -1,7 +1,7 @@
 //! Tokens with their bytes.
 
 ghost use Rattle.std.specs.Prelude.{◌≡◌, IfOk, map, take};
-ghost use Rattle.ds_lex.specs.Lexemes.{end_behind, end_within, front_text, lexed_text, lexeme_of, lexemes, limited_text, part, place_of, seen_text};
+ghost use Rattle.ds_lex.specs.Lexemes.{end_of, front_text, lexed_text, lexeme_of, lexemes, limited_text, part, place_of, seen_limited, seen_text};
 
 use crate::scanning::{Scanned, scan};
 use crate::token::{Mode, Sort, Token};
@@ -37,9 +37,16 @@ impl End {
     }
 }
 
-/// A text as its tokens, and what stands behind the last of them.
+/// The tokens of a text up to its end, or to the first place where none begins.
 #[derive(Drop)]
 pub struct LexedText<'a> {
+    pub lexemes: Vec<Lexeme<'a>>,
+    pub bad: Option<usize>,
+}
+
+/// The tokens of a text's first `TEXT_LIMIT` bytes, and what stands behind the last of them.
+#[derive(Drop)]
+pub struct LimitedText<'a> {
     pub lexemes: Vec<Lexeme<'a>>,
     pub end: End,
 }
@@ -75,21 +82,16 @@ fn with_bytes<'a>(
     Ok(found)
 }
 
-fn end_behind(len: usize, bad: Option<usize>) -> End
-    ensures { result ≡ end_behind len bad }
+fn end_of(limit: usize, len: usize, bad: Option<usize>) -> End
+    ensures { result ≡ end_of limit len bad }
 {
     match bad {
-        None => End::Text(len),
         Some(at) => End::NoToken(at),
-    }
-}
-
-fn end_within(limit: usize, len: usize, end: End) -> End
-    ensures { result ≡ end_within limit len end }
-{
-    match end {
-        End::Text(_) if limit < len => End::Limit(limit),
-        _ => end,
+        None => if limit < len {
+            End::Limit(limit)
+        } else {
+            End::Text(len)
+        },
     }
 }
 
@@ -99,10 +101,7 @@ pub fn lex<'a>(alloc: Global, mode: Mode, text: &'a [u8]) -> Result<LexedText<'a
 {
     let Scanned { tokens, bad } = scan(alloc, mode, text)?;
     let lexemes = with_bytes(alloc, text, tokens.as_slice())?;
-    Ok(LexedText {
-        lexemes,
-        end: end_behind(text.len(), bad),
-    })
+    Ok(LexedText { lexemes, bad })
 }
 
 fn front(text: &[u8], limit: usize) -> &[u8]
@@ -119,13 +118,13 @@ fn lex_front<'a>(
     mode: Mode,
     limit: usize,
     text: &'a [u8],
-) -> Result<LexedText<'a>, AllocError>
-    ensures { IfOk result (λ t. seen_text t ≡ front_text mode limit text.now) }
+) -> Result<LimitedText<'a>, AllocError>
+    ensures { IfOk result (λ t. seen_limited t ≡ front_text mode limit text.now) }
 {
-    let LexedText { lexemes, end } = lex(alloc, mode, front(text, limit))?;
-    Ok(LexedText {
+    let LexedText { lexemes, bad } = lex(alloc, mode, front(text, limit))?;
+    Ok(LimitedText {
         lexemes,
-        end: end_within(limit, text.len(), end),
+        end: end_of(limit, text.len(), bad),
     })
 }
 
@@ -135,8 +134,8 @@ pub fn lex_limited<'a>(
     alloc: Global,
     mode: Mode,
     text: &'a [u8],
-) -> Result<LexedText<'a>, AllocError>
-    ensures { IfOk result (λ t. seen_text t ≡ limited_text mode text.now) }
+) -> Result<LimitedText<'a>, AllocError>
+    ensures { IfOk result (λ t. seen_limited t ≡ limited_text mode text.now) }
 {
     lex_front(alloc, mode, TEXT_LIMIT, text)
 }
