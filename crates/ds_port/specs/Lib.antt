@@ -1,0 +1,4 @@
+pub mod Causes
+pub mod Failing
+pub mod FileMap
+pub mod MemFiles

@@ -1,0 +1,212 @@
+ghost use Rattle.std.specs.Prelude.{◌≡◌, ◌<◌, false, [], Some};
+ghost use Rattle.ds_port.specs.Causes.{HasCause};
+ghost use Rattle.ds_port.specs.FileMap.{no_files};
+
+use crate::printed::write_once;
+use crate::{DeviceFault, Files, FindFault, MakeFault, Sink, Source};
+use ds_value::Name;
+use std::alloc::{AllocError, Global};
+use std::fs;
+use std::fs::File;
+use std::io::{ErrorKind, Read};
+use std::rt::Files as System;
+
+/// The files of the working folder, from which their names lead. A file is written under its name
+/// with `.part`, and renamed at commit.
+#[derive(Drop)]
+pub struct DiskFiles<R: System<File = File>> {
+    system: R,
+    faults: u64,
+}
+
+/// A file that is read.
+#[derive(Drop)]
+pub struct DiskInput {
+    file: File,
+    faults: u64,
+}
+
+/// A file that is being written.
+#[derive(Drop)]
+pub struct DiskOutput {
+    file: File,
+    name: Name,
+    path: String,
+    part: String,
+    faults: u64,
+}
+
+impl Source for DiskInput {
+    ghost tells = { false };
+
+    ghost rest = { λ _. [] };
+
+    ghost faults = { λ s. s.faults };
+
+    fn read(&mut self, buf: &mut [u8]) -> Result<usize, DeviceFault> {
+        match self.file.read(buf) {
+            Ok(count) => Ok(count),
+            Err(_) => {
+                self.faults = self.faults.saturating_add(1);
+                Err(DeviceFault)
+            }
+        }
+    }
+}
+
+impl Sink for DiskOutput {
+    ghost tells = { false };
+
+    ghost held = { λ _. [] };
+
+    ghost name = { λ s. Some s.name };
+
+    ghost faults = { λ s. s.faults };
+
+    fn write(&mut self, bytes: &[u8]) -> Result<usize, DeviceFault> {
+        write_once(&mut self.file, &mut self.faults, bytes)
+    }
+
+    fn finish(&mut self) -> Result<(), DeviceFault> {
+        match self.file.sync_all() {
+            Ok(()) => Ok(()),
+            Err(_) => {
+                self.faults = self.faults.saturating_add(1);
+                Err(DeviceFault)
+            }
+        }
+    }
+}
+
+/// The name as a path, with something behind it.
+fn path_of(alloc: Global, name: &Name, ending: &str) -> Result<String, AllocError> {
+    let mut text = String::new(alloc);
+    for byte in name.as_slice() {
+        text.push(char::from(*byte))?;
+    }
+    text.push_str(ending)?;
+    Ok(text)
+}
+
+impl<R: System<File = File>> DiskFiles<R> {
+    pub fn new(system: R) -> DiskFiles<R> {
+        DiskFiles { system, faults: 0 }
+    }
+
+    fn count_fault(&mut self)
+        ensures { HasCause self.old.faults self.new.faults (Unit {0}) }
+    {
+        self.faults = self.faults.saturating_add(1);
+    }
+}
+
+impl<R: System<File = File>> Files for DiskFiles<R> {
+    type Input = DiskInput;
+
+    type Output = DiskOutput;
+
+    ghost tells = { false };
+
+    ghost holds = { λ _. no_files };
+
+    ghost faults = { λ f. f.faults };
+
+    ghost inputs_tell = { λ t. t };
+
+    ghost outputs_tell = { λ t. t };
+
+    fn find(&mut self, alloc: Global, name: &Name) -> Result<DiskInput, FindFault> {
+        let Ok(path) = path_of(alloc, name, "") else {
+            return Err(FindFault::Memory);
+        };
+        match fs::open(&self.system, path.as_str()) {
+            Ok(file) => Ok(DiskInput { file, faults: 0 }),
+            Err(error) if error.kind() == ErrorKind::NotFound => Err(FindFault::Absent),
+            Err(_) => {
+                self.count_fault();
+                Err(FindFault::Device)
+            }
+        }
+    }
+
+    fn create(&mut self, alloc: Global, name: &Name) -> Result<DiskOutput, MakeFault> {
+        let (Ok(path), Ok(part), Ok(name)) = (
+            path_of(alloc, name, ""),
+            path_of(alloc, name, ".part"),
+            name.copied(),
+        ) else {
+            return Err(MakeFault::Memory);
+        };
+        match fs::create(&self.system, part.as_str()) {
+            Ok(file) => Ok(DiskOutput {
+                file,
+                name,
+                path,
+                part,
+                faults: 0,
+            }),
+            Err(_) => {
+                self.count_fault();
+                Err(MakeFault::Device)
+            }
+        }
+    }
+
+    fn commit(&mut self, output: DiskOutput) -> Result<(), DeviceFault> {
+        if output.faults > 0 {
+            self.count_fault();
+        }
+        match fs::rename(&self.system, output.part.as_str(), output.path.as_str()) {
+            Ok(()) => Ok(()),
+            Err(_) => {
+                let _ = fs::remove_file(&self.system, output.part.as_str());
+                self.count_fault();
+                Err(DeviceFault)
+            }
+        }
+    }
+
+    fn discard(&mut self, output: DiskOutput) {
+        let removed = fs::remove_file(&self.system, output.part.as_str());
+        if output.faults > 0 || removed.is_err() {
+            self.count_fault();
+        }
+    }
+
+    fn settle(&mut self, input: DiskInput) {
+        if input.faults > 0 {
+            self.count_fault();
+        }
+    }
+}
+
+#[cfg(test)]
+mod tests {
+    use super::*;
+    use std::test::Fail;
+
+    #[test]
+    fn files_are_written_committed_and_found(rt: HostRuntime) -> Result<(), Fail> {
+        let alloc = rt.alloc();
+        let mut files = DiskFiles::new(&rt);
+        let name = Name::from_bytes(alloc, b"written.txt")?.ok_or("no name")?;
+        let mut output = files.create(alloc, &name)?;
+        assert_eq!(rt; output.write(b"7,ann\n")?, 6);
+        output.finish()?;
+        files.commit(output)?;
+        let mut input = files.find(alloc, &name)?;
+        let mut buf = [0u8; 16];
+        let count = input.read(&mut buf)?;
+        assert_eq!(rt; &buf[..count], b"7,ann\n".as_slice());
+        assert_eq!(rt; input.read(&mut buf)?, 0);
+        files.settle(input);
+        let part = Name::from_bytes(alloc, b"written.txt.part")?.ok_or("no name")?;
+        assert!(rt; matches!(files.find(alloc, &part), Err(FindFault::Absent)));
+        let other = files.create(alloc, &name)?;
+        files.discard(other);
+        assert!(rt; matches!(files.find(alloc, &part), Err(FindFault::Absent)));
+        fs::remove_file(&rt, "written.txt")?;
+        assert!(rt; matches!(files.find(alloc, &name), Err(FindFault::Absent)));
+        Ok(())
+    }
+}

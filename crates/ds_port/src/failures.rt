@@ -1,0 +1,111 @@
+ghost use Rattle.std.specs.Prelude.{◌≡◌, ℕ, List, [], IsTrue, IfOk};
+ghost use Rattle.ds_port.specs.Causes.{HasCause};
+ghost use Rattle.ds_port.specs.Failing.{is_listed};
+
+use ds_value::{Items, NoMemory};
+use std::alloc::Global;
+
+/// Which calls of an object in memory fail.
+pub trait Failures: Drop {
+    /// How many have failed.
+    ghost count: { Self → ℕ };
+
+    /// The numbers of the calls that fail, counted from 0.
+    ghost numbers: { Self → List ℕ };
+
+    /// The number of the next call.
+    ghost calls: { Self → ℕ };
+
+    /// Whether the next call fails.
+    fn fails(&mut self) -> bool
+        ensures listed { result ≡ is_listed (numbers self.old) (calls self.old) }
+        ensures numbers { numbers self.new ≡ numbers self.old }
+        ensures cause { HasCause (count self.old) (count self.new) (IsTrue result) };
+
+    fn faults(&self) -> u64
+        ensures { result ≡ count self.now };
+
+    /// The same for an object of its own, which has not been called yet.
+    fn renewed(&self, alloc: Global) -> Result<Self, NoMemory>
+    where
+        Self: Sized,
+        ensures numbers { IfOk result (λ fresh. numbers fresh ≡ numbers self.now) }
+        ensures calls { IfOk result (λ fresh. calls fresh ≡ 0) }
+        ensures faults { IfOk result (λ fresh. count fresh ≡ 0) };
+}
+
+/// No call fails.
+#[derive(Clone, Copy, Debug)]
+pub struct NeverFails;
+
+impl Failures for NeverFails {
+    ghost count = { λ _. 0 };
+
+    ghost numbers = { λ _. [] };
+
+    ghost calls = { λ _. 0 };
+
+    fn fails(&mut self) -> bool {
+        false
+    }
+
+    fn faults(&self) -> u64 {
+        0
+    }
+
+    fn renewed(&self, _alloc: Global) -> Result<NeverFails, NoMemory> {
+        Ok(NeverFails)
+    }
+}
+
+/// The calls with these numbers fail, counted from 0.
+#[derive(Drop)]
+pub struct FailsAt {
+    numbers: Items<u64>,
+    calls: u64,
+    faults: u64,
+}
+
+impl FailsAt {
+    pub fn new(numbers: Vec<u64>) -> FailsAt
+        ensures numbers { result.numbers ≡ numbers.items }
+        ensures calls { result.calls ≡ 0 }
+        ensures faults { result.faults ≡ 0 }
+    {
+        FailsAt {
+            numbers: Items::from_vec(numbers),
+            calls: 0,
+            faults: 0,
+        }
+    }
+}
+
+impl Failures for FailsAt {
+    ghost count = { λ f. f.faults };
+
+    ghost numbers = { λ f. f.numbers };
+
+    ghost calls = { λ f. f.calls };
+
+    fn fails(&mut self) -> bool {
+        let fails = self.numbers.as_slice().contains(&self.calls);
+        self.calls = self.calls.saturating_add(1);
+        if fails {
+            self.faults = self.faults.saturating_add(1);
+        }
+        fails
+    }
+
+    fn faults(&self) -> u64 {
+        self.faults
+    }
+
+    fn renewed(&self, alloc: Global) -> Result<FailsAt, NoMemory> {
+        let numbers = self.numbers.as_slice().to_vec(alloc)?;
+        Ok(FailsAt {
+            numbers: Items::from_vec(numbers),
+            calls: 0,
+            faults: 0,
+        })
+    }
+}

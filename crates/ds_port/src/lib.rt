@@ -1,0 +1,31 @@
+//! What the engine asks of the outside: sources, sinks and files, with those in memory and the real ones.
+#![tactic(auto)]
+
+ghost use Rattle.ds_port.specs.FileMap.{MapLaws};
+
+mod disk;
+mod failures;
+mod files;
+mod memory;
+mod memory_files;
+mod printed;
+mod sink;
+mod source;
+
+pub use disk::{DiskFiles, DiskInput, DiskOutput};
+pub use failures::{FailsAt, Failures, NeverFails};
+pub use files::{Files, FindFault, MakeFault};
+pub use memory::{MemSink, MemSource};
+pub use memory_files::MemFiles;
+pub use printed::StdoutSink;
+pub use sink::Sink;
+pub use source::Source;
+
+/// A device has failed.
+#[derive(Clone, Copy, Debug, PartialEq, Eq)]
+pub struct DeviceFault;
+
+/// A map of files gives what was put into it last.
+pub fn map_laws()
+    ensures { MapLaws }
+{}
