@@ -20,3 +20,6 @@ pub mod Joined
 pub mod Wired
 pub mod ArrivalLaws
 pub mod Examples
+pub mod LiftedLaws
+pub mod RunLaws
+pub mod OperatorLaws

@@ -8,3 +8,4 @@ pub mod Batches
 pub mod Wiring
 pub mod Laws
 pub mod Arrivals
+pub mod Lifted

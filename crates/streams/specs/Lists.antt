@@ -1,10 +1,11 @@
 -- Lists of items and how they come together.
-use Rattle.std.specs.Prelude.{◌≡◌, ◌⊎◌, ℕ, zero, suc, ◌<◌, Bool, true, false, ◌&&◌, ◌||◌, List, [], ◌∷◌, ◌++◌, length, get_or, set}
+use Rattle.std.specs.Prelude.{◌≡◌, ◌⊎◌, ℕ, zero, suc, ◌<◌, Bool, true, false, if◌then◌else◌, ◌&&◌, ◌||◌, List, [], ◌∷◌, ◌++◌, length, get_or, set}
 use Rattle.std.specs.declared.cmp.Ordering.{Ordering}
 use Rattle.std.specs.declared.cmp.Ordering.TheVariants.{Less}
 use Rattle.std.specs.Ordering.{is_lt}
 use Rattle.std.specs.List.{AllByRecursion}
 
+-- x is a member
 abbrev pub IsIn : {A : Type 0} → A → List A → Type 0
 IsIn x [] = ⊥
 IsIn x (y ∷ ys) = (x ≡ y) ⊎ IsIn x ys
@@ -28,6 +29,17 @@ AllEmpty lists = AllByRecursion (λ xs. xs ≡ []) lists
 abbrev pub Interleaves : {X : Type 0} → List (List X) → List X → Type 0
 Interleaves lists [] = AllEmpty lists
 Interleaves {X} lists (x ∷ xs) = (i : ℕ) × (rest : List X) × (i < length lists) × (get_or lists i [] ≡ x ∷ rest) × Interleaves (set lists i rest) xs
+
+-- neighbours that are the same come together: x before some runs
+abbrev pub onto_run : {X : Type 0} → (X → X → Bool) → X → List (List X) → List (List X)
+onto_run same x [] = (x ∷ []) ∷ []
+onto_run same x ([] ∷ runs) = (x ∷ []) ∷ runs
+onto_run same x ((y ∷ run) ∷ runs) = if same x y then (x ∷ (y ∷ run)) ∷ runs else (x ∷ []) ∷ ((y ∷ run) ∷ runs)
+
+-- the runs of a list: its longest parts whose neighbours are the same
+abbrev pub runs_of : {X : Type 0} → (X → X → Bool) → List X → List (List X)
+runs_of same [] = []
+runs_of same (x ∷ xs) = onto_run same x (runs_of same xs)
 
 -- k lists from the p-th on
 abbrev pub lists_from : {X : Type 0} → (ℕ → List X) → ℕ → ℕ → List (List X)

@@ -1,8 +1,8 @@
 -- Operators and collectors as streams.
-use Rattle.std.specs.Prelude.{ℕ, zero, suc, ◌+◌, ◌==◌, nat_lt, Bool, true, false, not, ◌&&◌, ◌||◌, if◌then◌else◌, fold, Option, Some, None, List, [], ◌∷◌, ◌++◌, length}
+use Rattle.std.specs.Prelude.{ℕ, zero, suc, ◌+◌, ◌==◌, nat_lt, Bool, true, false, not, ◌&&◌, ◌||◌, if◌then◌else◌, Option, Some, None, List, [], ◌∷◌, ◌++◌, length}
 use Rattle.std.specs.declared.cmp.Ordering.{Ordering}
 use Rattle.std.specs.Ordering.{is_lt, is_gt}
-use Rattle.streams.specs.Lists.{is_empty}
+use Rattle.streams.specs.Lists.{is_empty, runs_of}
 use Rattle.streams.specs.Streams.{Item, row, end, Feed, Out, sends, Stream, ended, rows_of, all_below}
 
 -- the ports that ask, of the first n: the one of least rank
@@ -86,27 +86,30 @@ remdup_outs same before end = []
 abbrev pub remdup_stream : {X F : Type 0} → (X → X → Bool) → Stream X F
 remdup_stream same = record { ports = 1; wants = one_wanted; gives = λ feeds f. remdup_outs same (rows_of 0 feeds) f.item }
 
--- the run that ends these rows
-abbrev pub run_with : {X : Type 0} → (X → X → Bool) → List X → X → List X
-run_with same run x = if begins_run same run x then x ∷ [] else run ++ x ∷ []
-
-abbrev pub last_run : {X : Type 0} → (X → X → Bool) → List X → List X
-last_run same rows = fold (run_with same) [] rows
+-- the last of some runs, which may still grow
+abbrev pub last_run : {X : Type 0} → List (List X) → List X
+last_run [] = []
+last_run (run ∷ []) = run
+last_run (run ∷ (next ∷ runs)) = last_run (next ∷ runs)
 
 -- a rule of a run, if there is one
 abbrev pub ruled : {X F : Type 0} → (List X → List (Out X F)) → List X → List (Out X F)
 ruled rule [] = []
 ruled rule (x ∷ xs) = rule (x ∷ xs)
 
--- a rule of each run, once it is complete: a row of another value follows it, or End
+-- a rule of each run, once it is complete: a row that is not the same follows it, or End
 abbrev pub run_outs : {X F : Type 0} → (X → X → Bool) → (List X → List (Out X F)) → List X → Item X → List (Out X F)
-run_outs same rule before (row x) = if begins_run same before x then ruled rule (last_run same before) else []
-run_outs same rule before end = ruled rule (last_run same before)
+run_outs same rule before (row x) = if begins_run same before x then ruled rule (last_run (runs_of same before)) else []
+run_outs same rule before end = ruled rule (last_run (runs_of same before))
 
 abbrev pub run_stream : {X F : Type 0} → (X → X → Bool) → (List X → List (Out X F)) → Stream X F
 run_stream same rule = record { ports = 1; wants = one_wanted; gives = λ feeds f. run_outs same rule (rows_of 0 feeds) f.item }
 
--- the last row
+-- the first row of a run, and the last
+abbrev pub first_outs : {X F : Type 0} → List X → List (Out X F)
+first_outs [] = []
+first_outs (x ∷ xs) = sends 0 x ∷ []
+
 abbrev pub last_outs : {X F : Type 0} → List X → List (Out X F)
 last_outs [] = []
 last_outs (x ∷ []) = sends 0 x ∷ []

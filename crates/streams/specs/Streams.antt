@@ -16,7 +16,7 @@ pub data Out (X F : Type 0) : Type 0 where
   sends : ℕ → X → Out X F
   fails : F → Out X F
 
--- The number of an operator's ports, which of them it wants after some feeds, and what one more feed makes it give. All of it is total.
+-- the number of an operator's ports, which of them it wants after some feeds, and what one more feed makes it give; all of it total
 pub record Stream (X F : Type 0) : Type 0 where
   pub ports : ℕ
   pub wants : List (Feed X) → ℕ → Bool
@@ -92,17 +92,20 @@ Fed operator feeds = FedAfter operator [] feeds
 abbrev pub whole : {X : Type 0} → List X → List (Item X)
 whole xs = map row xs ++ end ∷ []
 
--- Fed with these lists to their ends, in an order that it wants, the operator emits these outs.
+-- fed with these lists to their ends, in an order that it wants, the operator emits these outs
 pub record Gives {X F : Type 0} (operator : Stream X F) (lists : ℕ → List X) (outs : List (Out X F)) : Type 0 where
   pub feeds : List (Feed X)
   pub fed : Fed operator feeds
   pub taken : (i : ℕ) → i < operator.ports → items_of i feeds ≡ whole (lists i)
   pub made : emits operator feeds ≡ outs
 
--- what every operator has: a port, no wish for a port that has ended, and a wish as long as some port hasn't
+-- what every operator has
 pub record IsStream {X F : Type 0} (operator : Stream X F) : Type 0 where
+  -- it has a port
   pub some : 0 < operator.ports
+  -- a port that it wants is there and hasn't ended
   pub opens : (feeds : List (Feed X)) (i : ℕ) → operator.wants feeds i ≡ true → (i < operator.ports) × (ended i feeds ≡ false)
+  -- it wants a port until all have ended
   pub hungry : (feeds : List (Feed X)) → Fed operator feeds → ((i : ℕ) × (operator.wants feeds i ≡ true)) ⊎ (all_ended operator feeds ≡ true)
 
 -- one port at a time is wanted: true of all but the any collector and the funnel
@@ -116,8 +119,10 @@ AtMostOne (sends port x ∷ []) = port ≡ 0
 AtMostOne (sends port x ∷ (o ∷ outs)) = ⊥
 AtMostOne (fails fault ∷ outs) = ⊥
 
--- what lets rows of several lanes through: at most one row for a feed, none for the one that ends the last lane, and no fault
+-- an operator that hands the rows of several lanes to one port
 pub record IsCollector {X F : Type 0} (operator : Stream X F) : Type 0 where
   pub stream : IsStream operator
+  -- no more than one row for a feed
   pub slim : (feeds : List (Feed X)) (f : Feed X) → Fed operator feeds → operator.wants feeds f.port ≡ true → AtMostOne (operator.gives feeds f)
+  -- nothing for the feed that ends the last lane
   pub ends_bare : (feeds : List (Feed X)) (f : Feed X) → Fed operator feeds → operator.wants feeds f.port ≡ true → all_ended operator (feeds ++ f ∷ []) ≡ true → operator.gives feeds f ≡ []

@@ -1,7 +1,8 @@
 ghost use Rattle.streams.specs.Core.{NeverStuck, EachFalls, Ends, RankFalls};
 ghost use Rattle.streams.specs.Batches.{BatchNeverStuck, BatchEachFalls, BatchFinishedIsLegal};
 ghost use Rattle.streams.specs.Chains.{ChainsFit};
-ghost use Rattle.streams.specs.Laws.{CollectorsFit, Decided, JoinGives};
+ghost use Rattle.streams.specs.Laws.{CollectorsFit, Decided, JoinGives, OperatorsGive};
+ghost use Rattle.streams.specs.Lifted.{LiftedFits};
 ghost use Rattle.streams.specs.Arrivals.{SharedArrives};
 ghost use Rattle.streams.specs.Wiring.{WiredIsPlan};
 ghost use Rattle.streams.specs.Plans.{FinishedIsLegal, RunIsLegal, LooseIsRun};
@@ -68,4 +69,14 @@ pub fn join_gives<T, F>()
 /// On a link whose lanes share queues, a legal execution gives each partition an interleaving of its lanes.
 pub fn shared_arrives<T, F>()
     ensures { SharedArrives T F }
+{}
+
+/// What operators with one port, and lookup, give is a function of their whole lists.
+pub fn operators_give<T, F>()
+    ensures { OperatorsGive T F }
+{}
+
+/// An operator over one kind of items is one over items of several kinds.
+pub fn lifted_fits<T, U, F>()
+    ensures { LiftedFits T U F }
 {}
