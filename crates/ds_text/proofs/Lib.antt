@@ -1,0 +1,3 @@
+pub mod Again
+pub mod PieceLemmas
+pub mod Underway
