@@ -29,6 +29,46 @@ impl Copied for Name0 {
     }
 }
 
+impl Copied for bool {
+    fn copied(&self) -> Result<bool, NoMemory> {
+        Ok(*self)
+    }
+}
+
+impl Copied for u32 {
+    fn copied(&self) -> Result<u32, NoMemory> {
+        Ok(*self)
+    }
+}
+
+impl Copied for i64 {
+    fn copied(&self) -> Result<i64, NoMemory> {
+        Ok(*self)
+    }
+}
+
+impl<A: Copied + Drop, B: Copied + Drop> Copied for (A, B) {
+    fn copied(&self) -> Result<(A, B), NoMemory> {
+        let (a, b) = self;
+        Ok((a.copied()?, b.copied()?))
+    }
+}
+
+impl<T: Copied + Drop> Copied for Option<T> {
+    fn copied(&self) -> Result<Option<T>, NoMemory> {
+        match self {
+            None => Ok(None),
+            Some(it) => Ok(Some(it.copied()?)),
+        }
+    }
+}
+
+impl<T: Copied + Drop> Copied for Items<T> {
+    fn copied(&self) -> Result<Items<T>, NoMemory> {
+        copied_items(self.allocator(), self)
+    }
+}
+
 /// A list of copies.
 pub fn copied_items<T: Copied + Drop>(alloc: Global, items: &Items<T>) -> Result<Items<T>, NoMemory>
     ensures { IfOk result (λ copy. copy ≡ items.now) }
