@@ -1,3 +1,5 @@
 pub mod Numerals
 pub mod Signs
 pub mod Wholes
+pub mod Decimals
+pub mod DecimalTexts
