@@ -3,3 +3,4 @@ pub mod Signs
 pub mod Wholes
 pub mod Decimals
 pub mod DecimalTexts
+pub mod Calendars
