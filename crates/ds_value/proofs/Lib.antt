@@ -1,3 +1,6 @@
 pub mod Numerals
 pub mod Signs
 pub mod Wholes
+pub mod Decimals
+pub mod DecimalTexts
+pub mod Calendars

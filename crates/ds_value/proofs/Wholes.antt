@@ -86,7 +86,7 @@ uint_within bits n (inr (inl e)) h = let k = subst (λ m. nat_lt n (2 ^ m) ≡ t
 uint_within bits n (inr (inr (inl e))) h = let k = subst (λ m. nat_lt n (2 ^ m) ≡ true) e h in grind arith
 uint_within bits n (inr (inr (inr e))) h = let k = subst (λ m. nat_lt n (2 ^ m) ≡ true) e h in grind arith
 
-size_of : (m : Bool) (n : ℕ) → unsigned_abs (cond m (neg_ℤ (pos n)) (pos n)) ≡ n
+pub size_of : (m : Bool) (n : ℕ) → unsigned_abs (cond m (neg_ℤ (pos n)) (pos n)) ≡ n
 size_of true zero = refl
 size_of true (suc n) = refl
 size_of false n = refl

@@ -3,6 +3,7 @@
 
 mod bytes;
 mod copied;
+mod decimal;
 mod items;
 mod kind;
 mod memory;
