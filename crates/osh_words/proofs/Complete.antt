@@ -1,15 +1,14 @@
 -- What is spelled is read.
-use Rattle.std.proofs.Common.{◌≡◌, ◌≤◌, ◌<◌, ◌+◌, ◌++◌, ℕ, zero, suc, List, [], ◌∷◌, length, Option, Some, None, Bool, true, false, refl, sym, ap, subst, ◌∙◌, arith}
-use Rattle.std.specs.Prelude.{◌&&◌, ◌==◌, if◌then◌else◌, codes}
+use Rattle.std.proofs.Common.{◌≡◌, ◌≤◌, ◌+◌, ◌++◌, ℕ, zero, suc, List, [], ◌∷◌, length, Option, Some, None, Bool, true, false, refl, sym, arith}
+use Rattle.std.specs.Prelude.{codes}
 use Rattle.std.specs.List.{flat_map}
 use Rattle.std.specs.Str.{bytes_eq}
-use Rattle.std.proofs.lemmas.List.{append_assoc}
 use Rattle.osh_words.specs.declared.command.Command.{Command}
 use Rattle.osh_words.specs.declared.command.Command.TheVariants as command
 use Rattle.osh_words.specs.declared.options.Options.{Options}
-use Rattle.osh_words.specs.Spelled.{IsFile, Writes, Written, words_of, serials, caps, spills, Flags, Sets, IsRun, IsGen, Spells, begins_with_dash}
+use Rattle.osh_words.specs.Spelled.{IsFile, Writes, Written, words_of, serials, caps, spills, Flags, Sets, IsRun, Spells, begins_with_dash}
 use Rattle.osh_words.specs.Spelled.Written.{Serial, Cap, Spill}
-use Rattle.osh_words.specs.Read.{number_of, setting_front, after_option, after_options, no_options, or_else, run_with, run_of, command_of}
+use Rattle.osh_words.specs.Read.{number_of, setting_front, after_option, after_options, or_else, run_with, run_of, command_of}
 use Rattle.osh_words.proofs.Single.{file_tested, number_read}
 
 abbrev pub these : Bool → Option ℕ → Option ℕ → Options
@@ -117,8 +116,8 @@ unfolding command_of run_of
 run_read words serial cap spill flow config r =
     let small : length r.options ≤ 3 = omega (arith, few r.options, few_flags (serials r.options) serial r.serial_set, few_set 1 1024 64 (caps r.options) cap r.cap_set, few_set 0 1024 16 (spills r.options) spill r.spill_set) in
     rw r.spelled (run_ends _ serial cap spill flow config
-      (taken 3 false None None r.options (flow ∷ config ∷ []) serial cap spill small (plain_stops flow (config ∷ []) r.flow_named.plain) r.serial_set r.cap_set r.spill_set)
-      r.flow_named r.config_named)
+    (taken 3 false None None r.options (flow ∷ config ∷ []) serial cap spill small (plain_stops flow (config ∷ []) r.flow_named.plain) r.serial_set r.cap_set r.spill_set)
+    r.flow_named r.config_named)
 
 pub spelled_is_read : (words : List (List ℕ)) (c : Command) → Spells words c → command_of words ≡ Some c
 unfolding command_of

@@ -1,3 +1,4 @@
 pub mod Single
 pub mod Complete
 pub mod Sound
+mod Worked

@@ -1,10 +1,9 @@
 -- Single words: names of files, and numbers.
-use Rattle.std.proofs.Common.{◌≡◌, ◌≤◌, ◌<◌, ◌^◌, ℕ, List, [], ◌∷◌, length, Result, Ok, Err, Option, Some, None, Bool, true, false, refl, sym, ap, subst, ◌∙◌, arith, rules}
-use Rattle.std.specs.Prelude.{nat_le, ◌&&◌, not, if◌then◌else◌}
+use Rattle.std.proofs.Common.{◌≡◌, ◌≤◌, ◌<◌, ◌^◌, ℕ, List, [], ◌∷◌, length, Result, Err, Option, Some, None, Bool, true, false, refl, subst, arith, rules}
+use Rattle.std.specs.Prelude.{if◌then◌else◌}
 use Rattle.std.specs.List.{list_all}
-use Rattle.std.specs.Result.{OkIff}
-use Rattle.std.specs.Str.Parse.{ParsesUnsigned, digits_value, IsNumeral}
-use Rattle.std.proofs.lemmas.Str.Parse.{IsNumeralModel, IsDigitsTest, numerals_by_value, parse_digits, digits_value_short}
+use Rattle.std.specs.Str.Parse.{ParsesUnsigned, digits_value}
+use Rattle.std.proofs.lemmas.Str.Parse.{IsNumeralModel, numerals_by_value, parse_digits, digits_value_short}
 use Rattle.std.proofs.lemmas.List.Sums.{AllPass-from_list_all, list_all-from_AllPass}
 use Rattle.std.proofs.lemmas.Bool.{leb-true, le-leb, not-true, not_from_false, and_parts, and_from}
 use Rattle.ds_value.specs.Names.{IsName, is_name_byte}
@@ -22,7 +21,7 @@ tested_file word t =
     let d = and_parts _ _ b.1 in
     record {
       name = record { some = leb-true _ _ a.0; short = leb-true _ _ b.0; each = AllPass-from_list_all is_name_byte word d.0 };
-      plain = not-true _ d.1
+      plain = not-true _ d.1;
     }
 
 pub file_read : (word name : List ℕ) → begins_with_dash word ≡ false → IsName word × (name ≡ word) → file_of word ≡ Some name

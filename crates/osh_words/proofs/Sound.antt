@@ -1,9 +1,8 @@
 -- What is read is spelled so.
-use Rattle.std.proofs.Common.{◌≡◌, ◌≤◌, ◌<◌, ◌+◌, ◌++◌, ℕ, zero, suc, List, [], ◌∷◌, length, Option, Some, None, Bool, true, false, refl, sym, ap, subst, ◌∙◌, arith}
-use Rattle.std.specs.Prelude.{◌&&◌, ◌==◌, if◌then◌else◌, codes}
+use Rattle.std.proofs.Common.{◌≡◌, ◌++◌, ℕ, zero, suc, List, [], ◌∷◌, Option, Some, None, Bool, true, false, refl, sym, ap, subst, ◌∙◌}
+use Rattle.std.specs.Prelude.{◌&&◌, if◌then◌else◌, codes}
 use Rattle.std.specs.List.{flat_map}
 use Rattle.std.specs.Str.{bytes_eq}
-use Rattle.std.specs.Str.Parse.{digits_value}
 use Rattle.std.proofs.lemmas.Bool.{and_parts}
 use Rattle.std.proofs.lemmas.List.{append_assoc, append-nil}
 use Rattle.std.proofs.lemmas.Grind.{flat_map-append}
@@ -13,9 +12,9 @@ use Rattle.osh_words.specs.declared.command.Command.TheVariants as command
 use Rattle.osh_words.specs.declared.options.Options.{Options}
 use Rattle.osh_words.specs.declared.options.Setting.{Setting}
 use Rattle.osh_words.specs.declared.options.Setting.TheVariants as setting
-use Rattle.osh_words.specs.Spelled.{IsFile, Writes, Written, words_of, serials, caps, spills, Flags, Sets, IsRun, IsGen, Spells}
+use Rattle.osh_words.specs.Spelled.{Writes, Written, words_of, serials, caps, spills, Flags, Sets, Spells}
 use Rattle.osh_words.specs.Spelled.Written.{Serial, Cap, Spill}
-use Rattle.osh_words.specs.Read.{and_then, is_number, number_of, number_front, setting_front, with_setting, with_serial, with_cap, with_spill, or_these, after_option, after_options, no_options, or_else, is_file, check_of, score_of, meaning_of, run_with, run_of, gen_of, command_of}
+use Rattle.osh_words.specs.Read.{and_then, number_of, number_front, setting_front, with_setting, with_serial, with_cap, with_spill, or_these, after_option, after_options, no_options, or_else, is_file, check_of, score_of, meaning_of, run_with, run_of, gen_of, command_of}
 use Rattle.osh_words.proofs.Single.{tested_file, read_number}
 use Rattle.osh_words.proofs.Complete.{these, FlagsFrom, SetsFrom, spelled_is_read}
 
@@ -71,10 +70,10 @@ serial_shown w ws x rest a h =
 shown_by : (a b c : Bool) (w : List ℕ) (ws : List (List ℕ)) (x : Setting) (rest : List (List ℕ))
     → (a ≡ true → w ≡ codes "-serial") → (b ≡ true → w ≡ codes "-cap") → (c ≡ true → w ≡ codes "-spill")
     → (let r : Option (Setting × List (List ℕ)) =
-        if a then Some (setting.Serial, ws)
-        else if b then and_then (number_front 1 1024 ws) (λ k. Some (setting.Cap k.0, k.1))
-        else if c then and_then (number_front 0 1024 ws) (λ k. Some (setting.Spill k.0, k.1))
-        else None in r) ≡ Some (x, rest)
+    if a then Some (setting.Serial, ws)
+    else if b then and_then (number_front 1 1024 ws) (λ k. Some (setting.Cap k.0, k.1))
+    else if c then and_then (number_front 0 1024 ws) (λ k. Some (setting.Spill k.0, k.1))
+    else None in r) ≡ Some (x, rest)
     → Shows x (w ∷ ws) rest
 shown_by true b c w ws x rest f g h e = serial_shown w ws x rest (f refl) e
 shown_by false true c w ws x rest f g h e = cap_shown w ws (number_front 1 1024 ws) x rest (g refl) refl e
@@ -145,10 +144,10 @@ one_taken o ws = front_taken o ws (setting_front ws) refl
 
 both_taken : (o : Options) (ws : List (List ℕ)) (x y : Options × List (List ℕ)) → Taken o ws x → Taken x.0 x.1 y → Taken o ws y
 both_taken o ws x y a b = record {
-      options = a.options ++ b.options;
-      spelled = a.spelled ∙ rw (b.spelled, flat_map-append words_of a.options b.options) (sym (append_assoc (flat_map words_of a.options) (flat_map words_of b.options) y.1));
-      sets = λ os serial cap spill f. rw (append_assoc a.options b.options os) (a.sets (b.options ++ os) serial cap spill (b.sets os serial cap spill f))
-    }
+  options = a.options ++ b.options;
+  spelled = a.spelled ∙ rw (b.spelled, flat_map-append words_of a.options b.options) (sym (append_assoc (flat_map words_of a.options) (flat_map words_of b.options) y.1));
+  sets = λ os serial cap spill f. rw (append_assoc a.options b.options os) (a.sets (b.options ++ os) serial cap spill (b.sets os serial cap spill f));
+}
 
 all_taken : (n : ℕ) (o : Options) (ws : List (List ℕ)) → Taken o ws (after_options n o ws)
 all_taken zero o ws = none_taken o ws
@@ -202,7 +201,7 @@ gen_made w v None k c d e h = cc
 gen_made w v (Some n) None c d e h = cc
 gen_made w v (Some n) (Some x) c d e h =
     subst (Spells (codes "gen" ∷ w ∷ v ∷ [])) (some_is (command.Gen n x) c h)
-      (record { count = w; seed = v; spelled = refl; count_written = read_number 7 1000000 w n d; seed_written = read_number 0 9999999999999999999 v x e })
+    (record { count = w; seed = v; spelled = refl; count_written = read_number 7 1000000 w n d; seed_written = read_number 0 9999999999999999999 v x e })
 
 gen_read : (ws : List (List ℕ)) (c : Command) → gen_of ws ≡ Some c → Spells (codes "gen" ∷ ws) c
 gen_read [] c h = cc
@@ -219,7 +218,7 @@ run_made ws o (f ∷ g ∷ []) c t h =
     let files = and_parts _ _ b.0 in
     let set : From no_options t.options o.serial (or_else 64 o.cap) (or_else 16 o.spill) = rw append-nil at (t.sets [] o.serial (or_else 64 o.cap) (or_else 16 o.spill) (ended o)) in
     subst (Spells (codes "run" ∷ ws)) b.1
-      (record { options = t.options; spelled = ap (λ us. codes "run" ∷ us) t.spelled; serial_set = set.serial_set; cap_set = set.cap_set; spill_set = set.spill_set; flow_named = tested_file f files.0; config_named = tested_file g files.1 })
+    (record { options = t.options; spelled = ap (λ us. codes "run" ∷ us) t.spelled; serial_set = set.serial_set; cap_set = set.cap_set; spill_set = set.spill_set; flow_named = tested_file f files.0; config_named = tested_file g files.1 })
 
 run_read : (ws : List (List ℕ)) (c : Command) → run_of ws ≡ Some c → Spells (codes "run" ∷ ws) c
 unfolding run_of

@@ -1,2 +1,4 @@
 pub mod Spelled
 pub mod Read
+pub mod Unique
+pub mod Lines

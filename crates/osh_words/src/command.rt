@@ -22,7 +22,10 @@ pub enum Command {
         config: Name,
     },
     /// Makes a workload of `n` orders from the seed `x`, and runs it.
-    Gen { n: u32, x: u64 },
+    Gen {
+        n: u32,
+        x: u64,
+    },
 }
 
 #[derive(Clone, Copy, Debug, PartialEq, Eq)]

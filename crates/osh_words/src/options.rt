@@ -20,6 +20,7 @@ pub enum Setting {
     Spill(u32),
 }
 
+/// How many options there are, each of which may stand once.
 const KINDS: usize = 3;
 
 /// A number at the front, and the words behind it.

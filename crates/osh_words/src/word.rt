@@ -53,13 +53,7 @@ pub fn number(word: &str, low: u64, high: u64) -> Option<u64>
         return None;
     }
     match word.parse::<u64>() {
-        Ok(n) => {
-            if low <= n && n <= high {
-                Some(n)
-            } else {
-                None
-            }
-        }
+        Ok(n) => { if low <= n && n <= high { Some(n) } else { None } }
         Err(_) => None,
     }
 }

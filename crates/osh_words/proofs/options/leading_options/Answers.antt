@@ -1,4 +1,4 @@
-use Rattle.std.proofs.Common.{◌≡◌, ◌≢◌, ◌-◌, ◌+◌, ℕ, zero, suc, List, refl, sym, ap, ◌∙◌, arith}
+use Rattle.std.proofs.Common.{◌≡◌, ◌≢◌, ◌-◌, ◌+◌, ℕ, zero, suc, List, refl, ◌∙◌, arith}
 use Rattle.osh_words.specs.declared.options.Options.{Options}
 use Rattle.osh_words.specs.Read.{after_option, after_options}
 use Rattle.osh_words.proofs.options.leading_options.Goals as goal
