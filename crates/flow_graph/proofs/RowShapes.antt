@@ -10,7 +10,7 @@ use Rattle.flow_graph.specs.Shapes.{Carries, RowShape, Wide}
 use Rattle.op_base.specs.Columns.{Row, all_columns, as_it_is, is_in, pairs_of}
 use Rattle.op_base.specs.RowOperators.{Case, Computed, Judged, case, case_fails, case_faults, case_rows, cell, compute_fails, computed, copy_rule, failed_rows, fails, filter_rows, filter_rule, if_no, if_yes, judged_faults, modify_rule, no, not_set, other, set_rows, sink_rule, switch_rule, transform_passes, transform_rows, transform_rule, yes}
 use Rattle.op_base.specs.declared.fault.Fault.{Fault}
-use Rattle.flow_graph.proofs.PassingColumns.{carries_same, inside, pairs_fit, range_fit}
+use Rattle.flow_graph.proofs.PassingColumns.{carries_same, pairs_fit, range_fit}
 use Rattle.op_base.proofs.All.{all_filter}
 use Rattle.op_base.proofs.ColumnLaws.{length-range_with}
 use Rattle.op_base.proofs.Orders.{length-val}

@@ -6,7 +6,7 @@ use Rattle.std.specs.declared.cmp.Ordering.{Ordering}
 use Rattle.ds_schema.specs.Rows.{val}
 use Rattle.ds_schema.specs.declared.key.Key.{Key}
 use Rattle.ds_value.specs.declared.value.Value.{Value}
-use Rattle.flow_graph.specs.Parts.{Placed, PlacedFrom}
+use Rattle.flow_graph.specs.Parts.{PlacedFrom}
 use Rattle.flow_graph.specs.Placing.{hash_number, modulus_number}
 use Rattle.flow_graph.specs.States.{AgreeIf, Common, Holds, HoldsIn, LiesAt}
 use Rattle.flow_graph.specs.declared.place.Place.TheVariants.{Hash, Modulus}

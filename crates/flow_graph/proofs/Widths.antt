@@ -12,7 +12,6 @@ use Rattle.op_base.specs.Columns.{Row, no_row}
 use Rattle.op_base.specs.Keyed.{for_values, in_order, keys_in, same_vals, subs}
 use Rattle.op_base.specs.Lists.{joined}
 use Rattle.op_base.specs.Meanings.{Capture, Join, Looking, Segment, are_none, change, change_rule, changes, coded, columns_of, first_row, group_rows, if_continues, if_rejected, input, is_none, join_row, join_rows, join_rule, looked_row, merge_rule, one_row, row_of, update_values, ways_of}
-use Rattle.op_base.specs.RowOperators.{other}
 use Rattle.op_base.specs.declared.missing.Missing.{Missing}
 use Rattle.flow_graph.proofs.PartLaws.{flat_all}
 use Rattle.op_base.proofs.All.{all_append, all_cond, all_dropped, all_each, all_filter, all_flat_each}

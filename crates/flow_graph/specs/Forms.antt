@@ -1,10 +1,9 @@
 -- What a checker sees of an operator: which it is, its keys and the columns that pass, but no data.
-use Rattle.std.specs.Prelude.{ℕ, zero, suc, Bool, cond, List, [], ◌∷◌, length, Option, Some, None}
+use Rattle.std.specs.Prelude.{ℕ, zero, suc, Bool, cond, List, length, Option, Some, None}
 use Rattle.ds_schema.specs.declared.key.Key.{Key}
 use Rattle.op_base.specs.Columns.{Pairs, pairs_of, all_columns}
 use Rattle.op_base.specs.Keyed.{get_keys}
-use Rattle.op_base.specs.Meanings.{Grouping, Join, Merging, Looking, Capture}
-use Rattle.op_base.specs.RowOperators.{RowRule}
+use Rattle.op_base.specs.Meanings.{Looking}
 use Rattle.flow_graph.specs.declared.place.Place.{Place}
 use Rattle.flow_graph.specs.Operators.{Op}
 use Rattle.flow_graph.specs.Operators as op

@@ -1,6 +1,5 @@
 -- The partition in which a place puts a row.
-use Rattle.std.specs.Prelude.{ℕ, ◌%◌, ◌*◌, ◌^◌, List, [], ◌∷◌, ◌++◌, pos, fold, bit_xor}
-use Rattle.std.specs.Int.{int_rem_euclid}
+use Rattle.std.specs.Prelude.{ℕ, ◌%◌, ◌*◌, ◌^◌, List, [], ◌∷◌, fold, bit_xor}
 use Rattle.std.specs.List.{flat_map}
 use Rattle.ds_value.specs.declared.value.Value.{Value}
 use Rattle.ds_value.specs.Canonical.{canonical_bytes}

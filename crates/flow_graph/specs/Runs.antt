@@ -14,9 +14,9 @@ use Rattle.flow_graph.specs.declared.route.Route.{Route}
 use Rattle.flow_graph.specs.declared.route.Route.TheVariants as route
 use Rattle.flow_graph.specs.Destinations.{SentFrom}
 use Rattle.flow_graph.specs.Forms.{form, sort_key}
-use Rattle.flow_graph.specs.Operators.{Op, import, dsread, by_row, tsort, remdup, group, join, merge, lookup, changecapture, funnel, funnel_sequence, funnel_sort, result, faults}
+use Rattle.flow_graph.specs.Operators.{Op, import, dsread, remdup, group, join, merge, changecapture, funnel, funnel_sort, result, faults}
 use Rattle.flow_graph.specs.Placing.{place_number}
-use Rattle.flow_graph.specs.Shapes.{IsShaped, HasPort}
+use Rattle.flow_graph.specs.Shapes.{IsShaped, HasPort, FitsPorts, KeysDistinct}
 
 -- a link: the output that it leaves from, its number, how it goes, and whether its consumer is sequential
 pub record Out : Type 0 where
@@ -134,9 +134,9 @@ RouteFits width (route.Hash K) = Lies K (all_columns width)
 RouteFits width (route.Modulus c) = IsIn c (all_columns width)
 RouteFits width r = ⊤
 
--- the widths of an operator's outputs are those of the links that leave it
+-- an operator has the inputs and the shape that it must have, and the widths of its outputs are those of the links that leave it
 abbrev pub FitsShape : (ℕ → ℕ) → Node → Type 0
-FitsShape width n = (outs : ℕ → ℕ) × IsShaped n.op (map width n.ins) outs × AllByRecursion (λ (o : Out). (width o.link ≡ outs o.port) × HasPort n.op o.port × RouteFits (width o.link) o.route) n.outs
+FitsShape width n = (outs : ℕ → ℕ) × IsShaped n.op (map width n.ins) outs × FitsPorts n.op (length n.ins) × KeysDistinct n.op × AllByRecursion (λ (o : Out). (width o.link ≡ outs o.port) × HasPort n.op o.port × RouteFits (width o.link) o.route) n.outs
 
 -- all faults of a run, and of the meaning
 abbrev pub run_faults : Lists → List Node → List Fault

@@ -4,7 +4,7 @@ use Rattle.std.specs.List.{AllByRecursion, flat_map}
 use Rattle.std.specs.List.Sorted.{IsPermutation}
 use Rattle.ds_value.specs.declared.value.Value.{Value}
 use Rattle.ds_schema.specs.declared.key.Key.{Key}
-use Rattle.ds_schema.specs.Rows.{at, cols, ways}
+use Rattle.ds_schema.specs.Rows.{at, cols, ways, KeysDiffer}
 use Rattle.op_base.specs.Columns.{Row, Pairs, IsIn, Lies, all_columns}
 use Rattle.op_base.specs.Keyed.{get_keys}
 use Rattle.op_base.specs.Meanings.{Segment, Grouping, Merging, line_rows}
@@ -95,3 +95,27 @@ IsShaped (funnel_sort keys) ins outs = (q : ℕ) → AllWidths ins (outs q)
 abbrev pub HasPort : Op → ℕ → Type 0
 HasPort (merge m) q = q < length m.keys
 HasPort op q = ⊤
+
+-- the number of inputs
+abbrev pub FitsPorts : Op → ℕ → Type 0
+FitsPorts (import lines rejects beyond) n = n ≡ 0
+FitsPorts (dsread segments declared) n = n ≡ 0
+FitsPorts (by_row rule) n = n ≡ 1
+FitsPorts (tsort keys) n = n ≡ 1
+FitsPorts (remdup last keys) n = n ≡ 1
+FitsPorts (group g) n = n ≡ 1
+FitsPorts (join j) n = n ≡ 2
+FitsPorts (merge m) n = (0 < n) × (length m.keys ≡ n)
+FitsPorts (lookup k) n = n ≡ 2
+FitsPorts (changecapture c) n = n ≡ 2
+FitsPorts funnel n = 0 < n
+FitsPorts funnel_sequence n = 0 < n
+FitsPorts (funnel_sort keys) n = 0 < n
+
+-- no key list of an operator with several inputs names a column twice
+abbrev pub KeysDistinct : Op → Type 0
+KeysDistinct (join j) = KeysDiffer j.left_keys × KeysDiffer j.right_keys
+KeysDistinct (merge m) = AllByRecursion KeysDiffer m.keys
+KeysDistinct (lookup k) = KeysDiffer k.main_keys × KeysDiffer k.reference_keys
+KeysDistinct (changecapture c) = KeysDiffer c.keys
+KeysDistinct op = ⊤

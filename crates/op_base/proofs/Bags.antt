@@ -77,7 +77,7 @@ pub sum_interleaved : {X : Type 0} (f : X → ℕ) (ls : List (List X)) (xs : Li
 sum_interleaved f ls [] h = ap (sum_by f) (joined_nothing ls h)
 sum_interleaved f ls (x ∷ xs) h = sum_taken f ls h.0 x h.1 h.2 h.3 ∙ ap (λ n. f x + n) (sum_interleaved f (set ls h.0 h.1) xs h.4) ∙ sym (sum_by-cons f x xs)
 
-same_long : {X : Type 0} (xs ys : List X) → IsPermutation xs ys → length xs ≡ length ys
+pub same_long : {X : Type 0} (xs ys : List X) → IsPermutation xs ys → length xs ≡ length ys
 same_long xs ys h = sym (each xs) ∙ count-permutation (λ x. true) xs ys h ∙ each ys
   where
     each : {X : Type 0} (zs : List X) → count_by (λ x. true) zs ≡ length zs

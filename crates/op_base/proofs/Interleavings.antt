@@ -2,7 +2,7 @@
 use Rattle.std.proofs.Common.{Bool, List, ap, arith, cond, drop, false, filter, flat_map, get_or, inl, inr, length, map, refl, set, subst, suc, sym, take, true, zero, ℕ, ◌≡◌, ◌<◌, ◌≤◌, ◌∷◌, ◌++◌, ◌∙◌, []}
 use Rattle.std.proofs.lemmas.List.{get_or-map, length-map, map-set, set-get_or}
 use Rattle.std.specs.List.{AllByRecursion}
-use Rattle.op_base.specs.Lists.{AllEmpty, Interleaves, OneHolds, joined, longest, rounds}
+use Rattle.op_base.specs.Lists.{in_turn, AllEmpty, Interleaves, OneHolds, joined, longest, rounds}
 use Rattle.op_base.proofs.Filters.{empty_filter}
 
 pub empty_at : {X : Type 0} → (ls : List (List X)) (i : ℕ) → AllEmpty ls → get_or ls i [] ≡ []
@@ -113,3 +113,6 @@ under_empty lists (y ∷ ys) h = (suc (h.0), h.1, (let l = h.2 in omega arith), 
 pub joined_interleaves : {X : Type 0} (lists : List (List X)) → Interleaves lists (joined lists)
 joined_interleaves [] = tt
 joined_interleaves (xs ∷ lists) = alone_first xs (joined lists) lists (under_empty lists (joined lists) (joined_interleaves lists))
+
+pub turns_interleave : {X : Type 0} (lists : List (List X)) → Interleaves lists (in_turn lists)
+turns_interleave lists = rounds_interleave (longest lists) lists (omega arith)

@@ -1,3 +1,5 @@
+pub mod Adding
+pub mod StandingLaws
 pub mod All
 pub mod Filters
 pub mod Interleavings

@@ -12,7 +12,6 @@ use Rattle.ds_schema.specs.Rows.{row_cmp}
 use Rattle.ds_schema.specs.declared.key.Key.{Key}
 use Rattle.ds_value.specs.Values.{value_cmp}
 use Rattle.op_base.specs.Columns.{Row}
-use Rattle.op_base.specs.Feeds.{left}
 use Rattle.op_base.specs.Keyed.{arranged, by_key}
 use Rattle.op_base.specs.Lists.{IsArranged, firsts}
 use Rattle.op_base.proofs.All.{all_append, all_filter}

@@ -2,6 +2,7 @@
 use Rattle.std.specs.Prelude.{◌≡◌, ℕ, Bool, true, false, cond, ◌&&◌, ◌⊎◌, ◌==◌, List, [], ◌∷◌, Option, Some, None}
 use Rattle.std.specs.List.{AllByRecursion, range_with_len}
 use Rattle.ds_value.specs.declared.value.Value.{Value}
+pub use Rattle.streams.specs.Lists.{IsIn}
 
 abbrev pub Row : Type 0
 Row = List Value
@@ -9,10 +10,6 @@ Row = List Value
 -- a missing row: all its columns are null
 abbrev pub no_row : Row
 no_row = []
-
-abbrev pub IsIn : ℕ → List ℕ → Type 0
-IsIn c [] = ⊥
-IsIn c (d ∷ cs) = (c ≡ d) ⊎ IsIn c cs
 
 -- each column of the first list is in the second
 abbrev pub Lies : List ℕ → List ℕ → Type 0

@@ -5,3 +5,5 @@ pub mod Keyed
 pub mod Lists
 pub mod Meanings
 pub mod RowOperators
+pub mod Emits
+pub mod Standing

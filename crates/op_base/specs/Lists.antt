@@ -1,30 +1,14 @@
 -- Lists of any items: joined, interleaved, merged, one holder among several, in order, and their runs.
-use Rattle.std.specs.Prelude.{◌≡◌, ℕ, zero, suc, ◌<◌, false, cond, ◌⊎◌, List, [], ◌∷◌, ◌++◌, map, take, drop, length, get_or, set, max, ⊤}
+use Rattle.std.specs.Prelude.{◌≡◌, ℕ, zero, suc, ◌<◌, Bool, false, cond, ◌⊎◌, List, [], ◌∷◌, ◌++◌, map, take, drop, length, get_or, set, max, ⊤}
 use Rattle.std.specs.declared.cmp.Ordering.{Ordering}
 use Rattle.std.specs.declared.cmp.Ordering.TheVariants.{Less, Equal, Greater}
 use Rattle.std.specs.Ordering.{is_lt, is_eq}
 use Rattle.std.specs.List.{AllByRecursion, filter, flat_map}
+pub use Rattle.streams.specs.Lists.{AllEmpty, Interleaves, IsLeast, Merges}
 
 -- one after another
 abbrev pub joined : {X : Type 0} → List (List X) → List X
 joined lists = flat_map (λ xs. xs) lists
-
-abbrev pub AllEmpty : {X : Type 0} → List (List X) → Type 0
-AllEmpty lists = AllByRecursion (λ xs. xs ≡ []) lists
-
--- the first item is the first of some list, and the rest interleaves what is left
-abbrev pub Interleaves : {X : Type 0} → List (List X) → List X → Type 0
-Interleaves lists [] = AllEmpty lists
-Interleaves {X} lists (x ∷ xs) = (i : ℕ) × (rest : List X) × (i < length lists) × (get_or lists i [] ≡ x ∷ rest) × Interleaves (set lists i rest) xs
-
--- x is the least of what waits, and of the first list that has such
-abbrev pub IsLeast : {X : Type 0} → (X → X → Ordering) → List (List X) → ℕ → X → Type 0
-IsLeast {X} cmp lists i x = (j : ℕ) (y : X) (rest : List X) → get_or lists j [] ≡ y ∷ rest → (is_lt (cmp y x) ≡ false) × (j < i → cmp x y ≡ Less)
-
--- the least of what waits, again and again; a tie goes to the smaller list
-abbrev pub Merges : {X : Type 0} → (X → X → Ordering) → List (List X) → List X → Type 0
-Merges cmp lists [] = AllEmpty lists
-Merges {X} cmp lists (x ∷ xs) = (i : ℕ) × (rest : List X) × (i < length lists) × (get_or lists i [] ≡ x ∷ rest) × IsLeast cmp lists i x × Merges cmp (set lists i rest) xs
 
 -- one item of each list in turn, n times; a list that has ended is skipped
 abbrev pub rounds : {X : Type 0} → ℕ → List (List X) → List X
@@ -68,15 +52,16 @@ firsts cmp (x ∷ xs) = with_rank cmp x (firsts cmp xs)
 abbrev pub arranged_by : {X : Type 0} → (X → X → Ordering) → List X → List X
 arranged_by cmp xs = flat_map (λ x. filter (λ y. is_eq (cmp y x)) xs) (firsts cmp xs)
 
+abbrev pub ties : {X : Type 0} → (X → X → Ordering) → X → X → Bool
+ties cmp x y = is_eq (cmp x y)
+
+-- x before some runs of items that tie
 abbrev pub onto_run : {X : Type 0} → (X → X → Ordering) → X → List (List X) → List (List X)
-onto_run cmp x [] = (x ∷ []) ∷ []
-onto_run cmp x ([] ∷ runs) = (x ∷ []) ∷ runs
-onto_run cmp x ((y ∷ ys) ∷ runs) = cond (is_eq (cmp x y)) ((x ∷ (y ∷ ys)) ∷ runs) ((x ∷ []) ∷ ((y ∷ ys) ∷ runs))
+onto_run cmp x runs = Rattle.streams.specs.Lists.onto_run (ties cmp) x runs
 
 -- the longest lists of neighbours that tie
 abbrev pub runs_of : {X : Type 0} → (X → X → Ordering) → List X → List (List X)
-runs_of cmp [] = []
-runs_of cmp (x ∷ xs) = onto_run cmp x (runs_of cmp xs)
+runs_of cmp xs = Rattle.streams.specs.Lists.runs_of (ties cmp) xs
 
 -- the last item, if there is one
 abbrev pub last_one : {X : Type 0} → List X → List X

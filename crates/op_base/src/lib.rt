@@ -1,8 +1,13 @@
-//! What the crates of operators share: faults, and the definitions of what operators mean.
+//! What the crates of operators share: faults, what an operator emits, the trait of operators,
+//! and the definitions of what they mean.
 #![tactic(auto)]
 
+mod emit;
 mod fault;
 mod missing;
+mod operator;
 
+pub use emit::{Emit, Sent};
 pub use fault::{Fault, FaultKind, fault_cmp};
 pub use missing::Missing;
+pub use operator::{Operator, Want};

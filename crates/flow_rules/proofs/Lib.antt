@@ -1,0 +1,16 @@
+pub mod NeedTypes
+pub mod Passing
+pub mod Refined
+pub mod MeetLaws
+pub mod KeyRules
+pub mod RowOps
+pub mod GroupOps
+pub mod RouteOps
+pub mod FunnelOps
+pub mod SimpleOps
+pub mod OpHolds
+pub mod FeedOps
+pub mod PlaceFits
+pub mod Acceptance
+pub mod FlowAll
+pub mod Ends

@@ -1,0 +1,3 @@
+pub mod Derive
+pub mod Needs
+pub mod Soundness

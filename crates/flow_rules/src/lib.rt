@@ -1,0 +1,6 @@
+//! What the checker infers of a flow's links, and why it may be believed.
+#![tactic(auto)]
+
+mod need;
+
+pub use need::Need;
