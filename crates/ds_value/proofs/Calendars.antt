@@ -32,10 +32,13 @@ unfolding days_of_months jiff.days_of_months
 months_same y zero = refl
 months_same y (suc m) = ap (λ n. n + days_in_month y (suc m)) (months_same y m)
 
+pub first_day : jiff.day_count (pos 1) 1 1 ≡ 3_652_791
+first_day = day_count-early (pos 1) 10000 1 1 refl (omega arith) (omega arith) (omega arith)
+
 -- and so are their years
 years_same : (n : ℕ) → jiff.day_count (pos (suc n)) 1 1 ≡ 3_652_791 + days_of_years n
 unfolding days_of_years
-years_same zero = day_count-early (pos 1) 10000 1 1 refl (omega arith) (omega arith) (omega arith)
+years_same zero = first_day
 years_same (suc n) =
     let next : jiff.day_count (pos (suc (suc n))) 1 1 ≡ jiff.day_count (pos (suc n)) 1 1 + jiff.days_in_year (pos (suc n)) = core.day_count-next_year (pos (suc n)) (pos (suc (suc n))) (omega (arith, ints)) (omega (arith, ints)) in
     omega (arith, years_same n, next)

@@ -4,3 +4,5 @@ pub mod Wholes
 pub mod Decimals
 pub mod DecimalTexts
 pub mod Calendars
+pub mod LastDigits
+pub mod DateTexts

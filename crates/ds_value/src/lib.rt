@@ -3,6 +3,7 @@
 
 mod bytes;
 mod copied;
+mod date;
 mod decimal;
 mod items;
 mod kind;
