@@ -1,9 +1,12 @@
 -- What a state says, of partitions that are each changed alone.
-use Rattle.std.proofs.Common.{List, None, Option, Some, add-one, ap, ap₂, arith, get_or, length, map, mod-lt, refl, subst, suc, sym, zero, ℕ, ◌≡◌, ◌≢◌, ◌+◌, ◌<◌, ◌∷◌, ◌++◌, ◌∙◌, []}
+use Rattle.std.proofs.Common.{List, None, Option, Some, add-one, ap, ap₂, arith, get_or, length, map, mod-lt, refl, subst, suc, sym, zero, ℕ, ◌≡◌, ◌≢◌, ◌+◌, ◌<◌, ◌∷◌, ◌++◌, ◌∙◌, [], ◌%◌}
 use Rattle.std.proofs.lemmas.List.{length-map}
+use Rattle.std.specs.Int.{int_rem_euclid}
+use Rattle.std.specs.Prelude.{ℤ, pos, negsuc, unsigned_abs}
+use Rattle.ds_value.specs.Values.{number}
 use Rattle.std.specs.List.{AllByRecursion, range_with_len}
 use Rattle.std.specs.declared.cmp.Ordering.{Ordering}
-use Rattle.ds_schema.specs.Rows.{val}
+use Rattle.ds_schema.specs.Rows.{at, val}
 use Rattle.ds_schema.specs.declared.key.Key.{Key}
 use Rattle.ds_value.specs.declared.value.Value.{Value}
 use Rattle.flow_graph.specs.Parts.{PlacedFrom}
@@ -78,9 +81,12 @@ placed_solo (xs ∷ []) e = (all xs, tt)
     all (y ∷ ys) = (refl, all ys)
 placed_solo (xs ∷ (ys ∷ parts)) e = absurd (omega arith)
 
+remainder_below : (n : ℕ) (z : ℤ) → 0 < n → unsigned_abs (int_rem_euclid z (pos n)) < n
+remainder_below n (pos a) l = mod-lt a l
+remainder_below n (negsuc a) l = let h : a % n < n = mod-lt a l in omega arith
+
 pub modulus_below : (n : ℕ) (v : List Value) → 0 < n → modulus_number n v < n
-unfolding modulus_number
-modulus_below n v l = mod-lt _ l
+modulus_below n v l = remainder_below n (number (at v 0)) l
 
 abbrev pub SameSet : Option (List ℕ) → Option (List ℕ) → Type 0
 SameSet None None = Unit {0}

@@ -7,7 +7,7 @@ use Rattle.ds_schema.specs.declared.key.Key.{Key}
 use Rattle.ds_value.specs.declared.value.Value.{Value}
 use Rattle.ds_value.specs.declared.value.Value.TheVariants.{Int}
 use Rattle.flow_graph.specs.Operators.{Op, by_row, changecapture, dsread, funnel, funnel_sequence, funnel_sort, group, import, join, lookup, merge, remdup, result, tsort}
-use Rattle.flow_graph.specs.Shapes.{AllWidths, IsShaped, SameWays, Wide, total_length}
+use Rattle.flow_graph.specs.Shapes.{AllWide, AllWidths, IsShaped, SameWays, Wide, total_length}
 use Rattle.op_base.specs.Columns.{Row, no_row}
 use Rattle.op_base.specs.Keyed.{for_values, in_order, keys_in, same_vals, subs}
 use Rattle.op_base.specs.Lists.{joined}
@@ -21,12 +21,6 @@ use Rattle.op_base.proofs.KeyValues.{flat_values, order_all}
 use Rattle.op_base.proofs.Orders.{length-val}
 use Rattle.op_base.proofs.RowLists.{by_key_all}
 use Rattle.op_base.specs.declared.missing.Missing.TheVariants as missing
-
--- the rows of each input have its width
-abbrev pub AllWide : List ℕ → List (List Row) → Type 0
-AllWide [] [] = Unit {0}
-AllWide (w ∷ ins) (rows ∷ inputs) = AllByRecursion (Wide w) rows × AllWide ins inputs
-AllWide ins inputs = ⊥
 
 pub wide_at : (ins : List ℕ) (inputs : List (List Row)) (i : ℕ) → AllWide ins inputs → AllByRecursion (Wide (get_or ins i 0)) (input i inputs)
 wide_at [] [] i h = tt

@@ -1,6 +1,7 @@
 pub mod Columns
 pub mod Destinations
 pub mod Forms
+pub mod Grades
 pub mod Operators
 pub mod Parts
 pub mod Placing

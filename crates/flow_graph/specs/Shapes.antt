@@ -119,3 +119,9 @@ KeysDistinct (merge m) = AllByRecursion KeysDiffer m.keys
 KeysDistinct (lookup k) = KeysDiffer k.main_keys × KeysDiffer k.reference_keys
 KeysDistinct (changecapture c) = KeysDiffer c.keys
 KeysDistinct op = ⊤
+
+-- the rows of each input have its width
+abbrev pub AllWide : List ℕ → List (List Row) → Type 0
+AllWide [] [] = ⊤
+AllWide (w ∷ ins) (rows ∷ inputs) = AllByRecursion (Wide w) rows × AllWide ins inputs
+AllWide ins inputs = ⊥

@@ -34,3 +34,9 @@ HoldsIn spot.None state parts whole = Common state parts whole × LiesAt spot.No
 
 abbrev pub Holds : State → List (List Row) → List Row → Type 0
 Holds state parts whole = HoldsIn state.place state parts whole
+
+-- the states of several links hold
+abbrev pub AllHold : List State → List (List (List Row)) → List (List Row) → Type 0
+AllHold [] [] [] = ⊤
+AllHold (s ∷ states) (parts ∷ inputs) (whole ∷ wholes) = Holds s parts whole × AllHold states inputs wholes
+AllHold states inputs wholes = ⊥

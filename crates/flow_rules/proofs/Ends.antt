@@ -15,14 +15,9 @@ use Rattle.flow_graph.proofs.StateLaws.{holds_plain}
 use Rattle.flow_rules.proofs.FlowAll.{along_all}
 use Rattle.flow_rules.proofs.NeedTypes.{NotEntire}
 
--- what a grade promises: the agree set of the sink's link, and else the bag
-abbrev pub Meets : Option (List ℕ) → List (List Row) → List Row → Type 0
-Meets None parts whole = Bag parts whole
-Meets (Some G) parts whole = Agree G parts whole
-
--- A sink whose need is met gets what its grade says of the meaning itself, since no sort stands before it.
-pub sink_meets : (rule : RowRule) (width : ℕ → ℕ) (sorts : ℕ → Option (List Key)) (state : ℕ → State) (whole : ℕ → List Row) (run : Lists) (l : ℕ) → InsertedFrom sorts (by_row rule) 0 (l ∷ []) → NotEntire (state l) → Keeps width sorts state whole run l → Meets (state l).agree (run.got l) (whole l)
-sink_meets rule width sorts state whole run l i n k = go (state l).agree refl
+-- A sink whose need is met gets what its state says of the meaning itself, since no sort stands before it.
+pub sink_meets : (rule : RowRule) (width : ℕ → ℕ) (sorts : ℕ → Option (List Key)) (state : ℕ → State) (whole : ℕ → List Row) (run : Lists) (l : ℕ) → InsertedFrom sorts (by_row rule) 0 (l ∷ []) → NotEntire (state l) → Keeps width sorts state whole run l → Bag (run.got l) (whole l) × AgreeIf (state l).agree (run.got l) (whole l)
+sink_meets rule width sorts state whole run l i n k = (common.bag, common.agree)
   where
     unsorted : ((sorts l ≡ None) ⊎ (sorts l ≡ None)) → arranged_if (sorts l) (whole l) ≡ whole l
     unsorted (inl e) = ap (λ o. arranged_if o (whole l)) e
@@ -30,14 +25,6 @@ sink_meets rule width sorts state whole run l i n k = go (state l).agree refl
 
     common : Common (state l) (run.got l) (whole l)
     common = subst (Common (state l) (run.got l)) (unsorted i.0) (holds_plain (state l).place (state l) (run.got l) (arranged_if (sorts l) (whole l)) n k.holds).0
-
-    go : (o : Option (List ℕ)) → (state l).agree ≡ o → Meets o (run.got l) (whole l)
-    go None e = common.bag
-    go (Some G) e = subst (λ a. AgreeIf a (run.got l) (whole l)) e common.agree
-
--- exact: the partitions one after another are the whole
-one_holds : (parts : List (List Row)) (whole : List Row) → OneHolds (map (λ (rows : List Row). rows) parts) whole → OneHolds parts whole
-one_holds parts whole h = subst (λ ps. OneHolds ps whole) (Rattle.std.proofs.lemmas.List.map-id parts) h
 
 same_map : (v w : ℕ → List Row) (ins : List ℕ) → AllByRecursion (λ l. v l ≡ w l) ins → map v ins ≡ map w ins
 same_map v w [] h = refl

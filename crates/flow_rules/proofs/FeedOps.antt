@@ -7,7 +7,7 @@ use Rattle.ds_value.specs.declared.value.Value.{Value}
 use Rattle.flow_graph.specs.Operators.{Op, by_row, changecapture, dsread, faults, funnel, funnel_sequence, funnel_sort, group, import, join, lookup, merge, remdup, result, tsort}
 use Rattle.flow_graph.specs.Runs.{Gives, Merged, faults_on, result_on, slice}
 use Rattle.flow_graph.specs.Shapes.{IsShaped, SameWays}
-use Rattle.flow_graph.specs.States.{Holds}
+use Rattle.flow_graph.specs.States.{AllHold, Holds}
 use Rattle.flow_graph.specs.declared.state.State.{State}
 use Rattle.op_base.specs.Columns.{Row}
 use Rattle.op_base.specs.Feeds.{by_runs}
@@ -15,7 +15,6 @@ use Rattle.op_base.specs.Keyed.{arranged, by_key, for_values}
 use Rattle.op_base.specs.Lists.{IsArranged, firsts, joined}
 use Rattle.op_base.specs.Meanings.{Grouping, change_rule, columns_of, group_faults, group_rows, input, join_rule, merge_rule, one_row, ways_of}
 use Rattle.flow_graph.proofs.StateLaws.{holds_plain}
-use Rattle.flow_rules.proofs.MeetLaws.{AllHold}
 use Rattle.flow_rules.proofs.NeedTypes.{KeyedNeeds, Needs, NotEntire, OtherNeeds, SortedBy, SortedIf}
 use Rattle.flow_rules.proofs.OpHolds.{GivesMeant, first_ways, meant_faults_on, some_keys}
 use Rattle.op_base.proofs.All.{all_at}

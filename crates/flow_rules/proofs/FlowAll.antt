@@ -8,8 +8,8 @@ use Rattle.ds_schema.specs.declared.key.Key.{Key}
 use Rattle.flow_graph.specs.Forms.{form, looked_pairs}
 use Rattle.flow_graph.specs.Operators.{Op, by_row, changecapture, dsread, faults, funnel, funnel_sequence, funnel_sort, group, import, join, lookup, merge, remdup, result, tsort}
 use Rattle.flow_graph.specs.Runs.{Delivers, FitsShape, Forward, Gives, InsertedFrom, Lists, Means, Node, Out, RouteFits, Runs, arranged_if, links, meant_faults, result_on, run_faults, slice}
-use Rattle.flow_graph.specs.Shapes.{FitsPorts, HasPort, SpotFits, Wide}
-use Rattle.flow_graph.specs.States.{Common, Holds, HoldsIn}
+use Rattle.flow_graph.specs.Shapes.{AllWide, FitsPorts, HasPort, SpotFits, Wide}
+use Rattle.flow_graph.specs.States.{AllHold, Common, Holds, HoldsIn}
 use Rattle.flow_graph.specs.declared.place.Place.{Place}
 use Rattle.flow_graph.specs.declared.place.Place.TheVariants.{Hash, Modulus}
 use Rattle.flow_graph.specs.declared.state.Spot.{Spot}
@@ -22,11 +22,11 @@ use Rattle.op_base.specs.Keyed.{arranged, get_keys, seen, without}
 use Rattle.op_base.specs.Lists.{joined}
 use Rattle.flow_graph.proofs.InsertedSorts.{as_needed, faults_same, result_same}
 use Rattle.flow_graph.proofs.StateLaws.{holds_plain, sort_common}
-use Rattle.flow_graph.proofs.Widths.{AllWide, result_wide}
+use Rattle.flow_graph.proofs.Widths.{result_wide}
 use Rattle.flow_rules.proofs.Acceptance.{needs_met, route_met}
 use Rattle.flow_rules.proofs.FeedOps.{faults_meant, gives_meant}
 use Rattle.flow_rules.proofs.FunnelOps.{common_known}
-use Rattle.flow_rules.proofs.MeetLaws.{AllHold, Lengths, carried_plain, length-range}
+use Rattle.flow_rules.proofs.MeetLaws.{Lengths, carried_plain, length-range}
 use Rattle.flow_rules.proofs.NeedTypes.{Needs, derived_op}
 use Rattle.flow_rules.proofs.OpHolds.{meant_faults_on, op_faults, op_holds}
 use Rattle.flow_rules.proofs.Passing.{IsKnown}

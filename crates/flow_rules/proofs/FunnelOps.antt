@@ -9,7 +9,7 @@ use Rattle.ds_value.specs.declared.value.Value.{Value}
 use Rattle.flow_graph.specs.Parts.{Agree, Bag, PlacedFrom}
 use Rattle.flow_graph.specs.Placing.{hash_number, modulus_number}
 use Rattle.flow_graph.specs.Runs.{Funnelled, slice}
-use Rattle.flow_graph.specs.States.{AgreeIf, Holds, LiesAt}
+use Rattle.flow_graph.specs.States.{AllHold, AgreeIf, Holds, LiesAt}
 use Rattle.flow_graph.specs.declared.place.Place.TheVariants.{Hash, Modulus}
 use Rattle.flow_graph.specs.declared.state.Spot.{Spot}
 use Rattle.flow_graph.specs.declared.state.State.{State}
@@ -21,7 +21,7 @@ use Rattle.op_base.specs.Lists.{IsArranged, OneHolds, joined}
 use Rattle.flow_graph.proofs.Holders.{one_at}
 use Rattle.flow_graph.proofs.PartLaws.{agree_finer, sort_bag}
 use Rattle.flow_graph.proofs.StateLaws.{each_part, holds_plain, modulus_below, placed_solo, plain_holds, sort_agree_if}
-use Rattle.flow_rules.proofs.MeetLaws.{AllHold, Lengths, each_range, length-range, one_in_range}
+use Rattle.flow_rules.proofs.MeetLaws.{Lengths, each_range, length-range, one_in_range}
 use Rattle.flow_rules.proofs.NeedTypes.{NotEntire}
 use Rattle.flow_rules.proofs.Passing.{IsKnown, part_at, part_none}
 use Rattle.flow_rules.proofs.RouteOps.{all_any, any_sorted}

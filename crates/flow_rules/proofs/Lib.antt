@@ -14,3 +14,5 @@ pub mod PlaceFits
 pub mod Acceptance
 pub mod FlowAll
 pub mod Ends
+pub mod LawProofs
+pub mod Wrong

@@ -8,7 +8,7 @@ use Rattle.ds_schema.specs.declared.key.Key.{Key}
 use Rattle.ds_value.specs.declared.value.Value.{Value}
 use Rattle.flow_graph.specs.Parts.{Agree, Bag, PlacedFrom}
 use Rattle.flow_graph.specs.Runs.{slice}
-use Rattle.flow_graph.specs.States.{AgreeIf, Common, Holds, LiesAt}
+use Rattle.flow_graph.specs.States.{AllHold, AgreeIf, Common, Holds, LiesAt}
 use Rattle.flow_graph.specs.declared.place.Place.TheVariants.{Hash, Modulus}
 use Rattle.flow_graph.specs.declared.state.Spot.{Spot}
 use Rattle.flow_graph.specs.declared.state.State.{State}
@@ -226,12 +226,6 @@ known_key_place keys (spot.Placed (Hash C)) e = let p = numbers_of keys C e in s
 known_key_place keys (spot.Placed (Modulus c)) e = let p = number_of keys 0 c e in subst (λ a. IsKnown (modulus_if a)) (sym p.1) tt
 known_key_place keys spot.Entire e = cc
 known_key_place keys spot.None e = cc
-
--- inputs with their states
-abbrev pub AllHold : List State → List (List (List Row)) → List (List Row) → Type 0
-AllHold [] [] [] = Unit {0}
-AllHold (s ∷ states) (parts ∷ inputs) (whole ∷ wholes) = Holds s parts whole × AllHold states inputs wholes
-AllHold states inputs wholes = ⊥
 
 abbrev pub Lengths : ℕ → List (List (List Row)) → Type 0
 Lengths degree inputs = AllByRecursion (λ (parts : List (List Row)). length parts ≡ degree) inputs

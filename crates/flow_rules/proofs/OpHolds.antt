@@ -8,8 +8,8 @@ use Rattle.ds_value.specs.declared.value.Value.{Value}
 use Rattle.flow_graph.specs.Operators.{Op, by_row, changecapture, dsread, faults, funnel, funnel_sequence, funnel_sort, group, import, join, lookup, merge, remdup, result, tsort}
 use Rattle.flow_graph.specs.Parts.{Bag}
 use Rattle.flow_graph.specs.Runs.{FitsDegree, Funnelled, slice}
-use Rattle.flow_graph.specs.Shapes.{HasPort, IsShaped, SameWays}
-use Rattle.flow_graph.specs.States.{Holds}
+use Rattle.flow_graph.specs.Shapes.{AllWide, HasPort, IsShaped, SameWays}
+use Rattle.flow_graph.specs.States.{AllHold, Holds}
 use Rattle.flow_graph.specs.declared.state.State.{State}
 use Rattle.flow_rules.specs.Derive.{first_keys, read_state}
 use Rattle.op_base.specs.Columns.{Row}
@@ -19,11 +19,10 @@ use Rattle.op_base.specs.Meanings.{Segment, change_rule, columns_of, join_rule, 
 use Rattle.op_base.specs.declared.fault.Fault.{Fault}
 use Rattle.flow_graph.proofs.PartLaws.{agree_bag, rows_bag}
 use Rattle.flow_graph.proofs.StateLaws.{each_part, holds_plain}
-use Rattle.flow_graph.proofs.Widths.{AllWide}
 use Rattle.flow_rules.proofs.FunnelOps.{funnel_holds, sequence_holds, sort_funnel_holds}
 use Rattle.flow_rules.proofs.GroupOps.{group_fault_bag, group_holds}
 use Rattle.flow_rules.proofs.KeyRules.{change_key_rule, join_key_rule, join_permuted, merge_key_rule, ways-first}
-use Rattle.flow_rules.proofs.MeetLaws.{AllHold, KeyRule, Lengths, Permuted, keyed_agree, keyed_bag, keyed_holds, needs_all, needs_ready, place_of_first, ready_meets, ready_meets_bag}
+use Rattle.flow_rules.proofs.MeetLaws.{KeyRule, Lengths, Permuted, keyed_agree, keyed_bag, keyed_holds, needs_all, needs_ready, place_of_first, ready_meets, ready_meets_bag}
 use Rattle.flow_rules.proofs.NeedTypes.{KeyedNeeds, Needs, NotEntire, SortedBy, derived_op}
 use Rattle.flow_rules.proofs.Passing.{num, num_below}
 use Rattle.flow_rules.proofs.RowOps.{lookup_faults, lookup_holds, rows_hold}

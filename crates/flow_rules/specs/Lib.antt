@@ -1,3 +1,5 @@
 pub mod Derive
+pub mod Laws
 pub mod Needs
 pub mod Soundness
+pub mod WrongRules

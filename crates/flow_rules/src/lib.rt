@@ -1,6 +1,7 @@
 //! What the checker infers of a flow's links, and why it may be believed.
 #![tactic(auto)]
 
+pub mod laws;
 mod need;
 
 pub use need::Need;
