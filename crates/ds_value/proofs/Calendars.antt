@@ -252,3 +252,23 @@ number_of_date y m d h =
     let month : month_of z ≡ m = month_of-is z ∙ (ap (λ n. greatest (λ k. nat_le (days_of_months n k) (day_in_year_of z)) 11 + 1) year ∙ (ap (λ n. n + 1) k' ∙ omega arith)) in
     let day : day_of z ≡ d = day_of-is z ∙ (ap (λ n. day_in_year_of z - days_of_months n (month_of z - 1) + 1) year ∙ (ap (λ n. day_in_year_of z - days_of_months y (n - 1) + 1) month ∙ omega arith)) in
     (year, month, day)
+
+within_range : (n : ℕ) → n < 3_652_059 → IsDayNumber (pos n -ℤ pos 719162)
+within_range n h = (omega (arith, ints), omega (arith, ints))
+
+-- the number of each date lies in the range
+pub date_in_range : (y m d : ℕ) → IsDate y m d → IsDayNumber (day_number y m d)
+date_in_range y m d h =
+    let low = h.first_year in
+    let last = h.last_year in
+    let low_month = h.first_month in
+    let last_month = h.last_month in
+    let low_day = h.first_day in
+    let last_day = h.last_day in
+    let in_month = days_of_months-next y m low_month in
+    let in_year = days_of_months-le y m 12 last_month in
+    let all = months_all y in
+    let next = days_of_years-next y low in
+    let most = days_of_years-le y 9999 last in
+    let years = all_years in
+    within_range (days_before y m d) (omega arith)

@@ -14,7 +14,7 @@ use Rattle.ds_value.specs.Kinds.{is_between}
 use Rattle.ds_value.specs.Calendar.{IsDate, days_in_month, days_before, day_number, year_of, month_of, day_of}
 use Rattle.ds_value.specs.Spellings.{number_of, last_digits, IsNumeral, date_text, SpellsDate}
 use Rattle.ds_value.proofs.LastDigits.{length-last_digits, last_digits_are_digits, number_of-last_digits, last_digits-number_of, number_of-lt}
-use Rattle.ds_value.proofs.Calendars.{IsDayNumber, first_day, days_before-jiff, day_number-jiff, date_is_civil, civil_is_date, date_of_number, number_of_date}
+use Rattle.ds_value.proofs.Calendars.{IsDayNumber, first_day, days_before-jiff, day_number-jiff, date_is_civil, civil_is_date, date_of_number, date_in_range, number_of_date}
 
 pub small_number : (digits : List ℕ) → length digits ≤ 4 → IsNumeral digits → number_of digits < 10000
 small_number digits few h =
@@ -143,3 +143,9 @@ parts_of_number date plain z raw same value wide fits h =
     let narrow : raw ≡ z = wide ∙ to_z-of_z w32 z fits in
     let fits_wide : FitsSigned w64 raw = rw narrow (omega (arith, ints)) in
     parts_of_day date z (ap epoch_day same ∙ (value ∙ (to_z-of_z w64 raw fits_wide ∙ narrow))) h
+
+between : (z : ℤ) → IsDayNumber z → is_between (neg_ℤ (pos 719162)) (pos 2932896) z ≡ true
+between z h = let low = h.0 in let high = h.1 in grind (arith, ints)
+
+pub spelled_in_range : (bytes : List ℕ) (z : ℤ) → SpellsDate bytes z → is_between (neg_ℤ (pos 719162)) (pos 2932896) z ≡ true
+spelled_in_range bytes z h = between z (subst IsDayNumber (sym h.value) (date_in_range h.year h.month h.day h.date))

@@ -10,6 +10,7 @@ mod kind;
 mod memory;
 mod name;
 mod numeral;
+mod text;
 mod value;
 
 pub use bytes::Bytes;
@@ -18,4 +19,5 @@ pub use items::Items;
 pub use kind::{Kind, fits};
 pub use memory::NoMemory;
 pub use name::{Name, Name0};
+pub use text::{TextFault, read_text};
 pub use value::{Value, cmp, copy_value};
