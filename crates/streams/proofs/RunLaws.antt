@@ -3,7 +3,7 @@ use Rattle.std.proofs.Common.{◌≡◌, Bool, true, false, not, List, [], ◌�
 use Rattle.std.specs.List.{flat_map}
 use Rattle.streams.specs.Streams.{Out, row, end, sends}
 use Rattle.streams.specs.Lists.{onto_run, runs_of}
-use Rattle.streams.specs.Operators.{begins_run, last_run, ruled, run_outs, first_outs, remdup_outs}
+use Rattle.streams.specs.Operators.{begins_run, last_run, ruled, run_outs, first_outs, last_outs, remdup_outs}
 
 -- all but the last run
 abbrev pub closed_runs : {A : Type 0} → List A → List A
@@ -109,3 +109,22 @@ module _ {X : Type 0} (same : X → X → Bool) where
   remdup_outs-row {F} (b ∷ bs) x =
       ap (λ t. flat_map first_outs (runs_of same (b ∷ bs)) ++ cond t (sends 0 x ∷ []) []) (begins-last (b ∷ bs) x)
       ∙ sym (firsts-more (runs_of same (b ∷ bs)) x (runs_are b bs)) ∙ ap (flat_map first_outs) (sym (runs_of-more (b ∷ bs) x))
+
+  -- the last row of the last run is the last of all
+  last-run : {F : Type 0} (runs : List (List X)) (xs : List X) → AreRuns runs → (a : X) → last_outs {F = F} (last_run runs) ≡ last_outs xs → ruled (last_outs {F = F}) (last_run (onto_run same a runs)) ≡ last_outs xs
+  last-run {F} runs xs (one z zs) a e = elim (same a z) as (λ t. ruled (last_outs {F = F}) (last_run (cond t ((a ∷ (z ∷ zs)) ∷ []) ((a ∷ []) ∷ ((z ∷ zs) ∷ [])))) ≡ last_outs xs) [ true ↦ e | false ↦ e ]
+  last-run {F} runs xs (more z zs y next rest r) a e =
+      elim (same a z) as (λ t. ruled (last_outs {F = F}) (last_run (cond t ((a ∷ (z ∷ zs)) ∷ ((y ∷ next) ∷ rest)) ((a ∷ []) ∷ ((z ∷ zs) ∷ ((y ∷ next) ∷ rest))))) ≡ last_outs xs) [ true ↦ ruled-is ((y ∷ next) ∷ rest) r ∙ e | false ↦ ruled-is ((y ∷ next) ∷ rest) r ∙ e ]
+    where
+      ruled-is : (runs : List (List X)) → AreRuns runs → ruled (last_outs {F = F}) (last_run runs) ≡ last_outs (last_run runs)
+      ruled-is runs (one z zs) = refl
+      ruled-is runs (more z zs y next rest r) = ruled-is ((y ∷ next) ∷ rest) r
+
+  pub ruled-last : {F : Type 0} (before : List X) → ruled (last_outs {F = F}) (last_run (runs_of same before)) ≡ last_outs before
+  ruled-last [] = refl
+  ruled-last (a ∷ []) = refl
+  ruled-last {F} (a ∷ (b ∷ ys)) = last-run (runs_of same (b ∷ ys)) (b ∷ ys) (runs_are b ys) a (plain (runs_of same (b ∷ ys)) (runs_are b ys) (ruled-last (b ∷ ys)))
+    where
+      plain : (runs : List (List X)) → AreRuns runs → ruled (last_outs {F = F}) (last_run runs) ≡ last_outs (b ∷ ys) → last_outs {F = F} (last_run runs) ≡ last_outs (b ∷ ys)
+      plain runs (one z zs) e = e
+      plain runs (more z zs y next rest r) e = plain ((y ∷ next) ∷ rest) r e

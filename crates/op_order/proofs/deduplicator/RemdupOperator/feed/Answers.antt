@@ -1,0 +1,18 @@
+use Rattle.std.proofs.Common.{◌≡◌, ap, sym, ◌∙◌, subst, List}
+use Rattle.std.specs.Prelude.{option_to_list}
+use Rattle.streams.specs.Streams.{Out, rows_of}
+use Rattle.op_base.specs.declared.fault.Fault.{Fault}
+use Rattle.op_base.specs.Columns.{Row}
+use Rattle.op_base.specs.Emits.{Adds}
+use Rattle.op_base.proofs.StandingLaws.{one_port_fed}
+use Rattle.op_order.proofs.Standing.{RemdupStands-row, remdup_open, run_row-row}
+use Rattle.op_order.proofs.deduplicator.RemdupOperator.feed.Goals as goal
+
+pub returns-clause-stands : goal.returns-clause-stands
+returns-clause-stands c = λ feeds stands. RemdupStands-row _ _ feeds c.args._port _ (one_port_fed c.requires.feeds c.args._port c.requires.wanted) stands
+
+pub returns-clause-emits : goal.returns-clause-emits
+returns-clause-emits c = λ feeds stands.
+    let open_now = remdup_open _ _ c.requires.feeds c.args._port c.requires.stands c.requires.wanted in
+    subst (Adds c.args.emit.now c.emit_between.new.emit)
+    (sym (run_row-row c.args.self.now.keys c.args.self.now.last c.take-before.result (rows_of 0 feeds) c.args.row (ap option_to_list c.take-before.ensures.value ∙ stands.newest_is open_now))) c.in_ok-emit_between.ensures
