@@ -1,5 +1,5 @@
 -- How the field at the front of a delimited line is read.
-use Rattle.std.specs.Prelude.{◌≡◌, ◌≤◌, length, ◌==◌, ◌++◌, ℕ, List, [], ◌∷◌, Bool, true, false, Option, None, Some, not, if◌then◌else◌, take, drop}
+use Rattle.std.specs.Prelude.{◌≡◌, ◌≤◌, ◌<◌, ◌+◌, length, ◌==◌, ◌++◌, ℕ, List, [], ◌∷◌, Bool, true, false, Option, None, Some, not, if◌then◌else◌, take, drop}
 use Rattle.std.specs.List.{prefix_len}
 use Rattle.ds_value.specs.declared.kind.Kind.{Kind}
 use Rattle.ds_value.specs.declared.value.Value.{Value}
@@ -20,6 +20,14 @@ unquoted false [] = None
 unquoted true [] = Some (record { bytes = []; rest = [] })
 unquoted false (b ∷ bs) = if b == 34 then unquoted true bs else with_front (b ∷ []) (unquoted false bs)
 unquoted true (b ∷ bs) = if b == 34 then with_front (34 ∷ []) (unquoted false bs) else Some (record { bytes = []; rest = b ∷ bs })
+
+abbrev pub begins_quoted : List ℕ → Bool
+begins_quoted [] = false
+begins_quoted (b ∷ bs) = b == 34
+
+-- the next quote stands behind n bytes of content
+abbrev pub HasPiece : List ℕ → ℕ → Type 0
+HasPiece bytes n = (n < length bytes) × (unquoted false bytes ≡ with_front (take n bytes) (unquoted true (drop (n + 1) bytes)))
 
 -- how many bytes stand before the delimiter
 abbrev pub plain_len : ℕ → List ℕ → ℕ

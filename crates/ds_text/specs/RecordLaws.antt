@@ -1,5 +1,6 @@
 -- What holds of the lines that are written and of the rows that lines spell.
-use Rattle.std.specs.Prelude.{◌≡◌, ◌≤◌, ◌==◌, ℕ, List, [], ◌∷◌, length, Bool, true, false}
+use Rattle.std.specs.Prelude.{◌≡◌, ◌≤◌, ◌==◌, ◌^◌, ℕ, List, [], ◌∷◌, length, map, Bool, true, false}
+use Rattle.std.specs.List.{AllByRecursion}
 use Rattle.ds_value.specs.declared.kind.Kind.{Kind}
 use Rattle.ds_value.specs.declared.kind.Kind.TheVariants as kind
 use Rattle.ds_value.specs.declared.value.Value.{Value}
@@ -8,7 +9,7 @@ use Rattle.ds_schema.specs.declared.schema.Field.{Field}
 use Rattle.ds_schema.specs.Schemas.{IsSchema, row_fits}
 use Rattle.ds_text.specs.declared.form.Form.{Form}
 use Rattle.ds_text.specs.declared.form.Form.TheVariants.{Delimited, Fixed}
-use Rattle.ds_text.specs.Lines.{shown}
+use Rattle.ds_text.specs.Lines.{shown, lines_of, written_lines}
 use Rattle.ds_text.specs.Forms.{FormFits}
 use Rattle.ds_text.specs.Columns.{is_blank}
 use Rattle.ds_text.specs.Records.{SpellsRow, written_row, is_refused}
@@ -52,8 +53,32 @@ abbrev pub IsKept : Form → List Field → List Value → Type 0
 IsKept (Delimited d) fields row = Unit {0}
 IsKept (Fixed widths) fields row = EachStays fields row × (ends_with 13 (written_row (Fixed widths) fields row) ≡ false)
 
--- the line that is given of a written record spells the row
+-- a row of which a line can be written that gives it back
+pub record IsReadable (form : Form) (fields : List Field) (row : List Value) : Type 0 where
+  pub fits : row_fits fields row ≡ true
+  pub writable : is_refused form fields row ≡ false
+  pub kept : IsKept form fields row
+  pub short : length (written_row form fields row) ≤ 2_097_152
+
+-- the line that is given of a written row spells the row
 abbrev pub ReadsBack : Type 0
-ReadsBack = (form : Form) (fields : List Field) (row : List Value) → IsSchema fields → FormFits fields form → row_fits fields row ≡ true
-    → is_refused form fields row ≡ false → IsKept form fields row → length (written_row form fields row) ≤ 2_097_152
-    → SpellsRow form fields (shown (written_row form fields row)) row
+ReadsBack = (form : Form) (fields : List Field) (row : List Value) → IsSchema fields → FormFits fields form → IsReadable form fields row → SpellsRow form fields (shown (written_row form fields row)) row
+
+-- rows as the lines of a file
+abbrev pub written_rows : Form → List Field → List (List Value) → List ℕ
+written_rows form fields rows = written_lines (map (written_row form fields) rows)
+
+-- each line, in order, spells the row
+abbrev pub SpellRows : Form → List Field → List (List ℕ) → List (List Value) → Type 0
+SpellRows form fields [] [] = Unit {0}
+SpellRows form fields (line ∷ lines) (row ∷ rows) = SpellsRow form fields line row × SpellRows form fields lines rows
+SpellRows form fields lines rows = ⊥
+
+-- the lines of a file of written rows spell these rows, and no more comes
+pub record FileAgain (form : Form) (fields : List Field) (rows : List (List Value)) : Type 0 where
+  pub each : SpellRows form fields (lines_of (written_rows form fields rows)).lines rows
+  pub ends : (lines_of (written_rows form fields rows)).too_long ≡ false
+
+abbrev pub FileReadsBack : Type 0
+FileReadsBack = (form : Form) (fields : List Field) (rows : List (List Value)) → IsSchema fields → FormFits fields form → AllByRecursion (IsReadable form fields) rows
+    → length (written_rows form fields rows) ≤ 2 ^ 40 → FileAgain form fields rows

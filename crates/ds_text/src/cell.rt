@@ -1,8 +1,8 @@
-ghost use Rattle.std.specs.Prelude.{◌≡◌, ◌≤◌, ◌<◌, ◌+◌, ◌-◌, ◌++◌, ◌∷◌, ◌==◌, ◌||◌, ◌&&◌, not, if◌then◌else◌, ℕ, [], true, false, length, take, drop, IfOk, IfSome, OnOk, OnErr, Ok, Err, Some, None};
+ghost use Rattle.std.specs.Prelude.{◌≡◌, ◌≤◌, ◌<◌, ◌+◌, ◌-◌, ◌++◌, ◌∷◌, ◌==◌, ◌||◌, ◌&&◌, not, if◌then◌else◌, ℕ, [], true, false, length, take, drop, IfOk, IfSome, IfNone, OnOk, OnErr, Ok, Err, Some, None};
 ghost use Rattle.ds_value.specs.Kinds.{IsKind};
 ghost use Rattle.ds_text.specs.Cells.{BeginsPlain};
 ghost use Rattle.ds_text.specs.Records.{Means, is_empty, is_null_cell};
-ghost use Rattle.ds_text.specs.Reading.{unquoted, plain_len, ends_field, FieldAt, NoField, MeansNone};
+ghost use Rattle.ds_text.specs.Reading.{unquoted, begins_quoted, HasPiece, plain_len, ends_field, FieldAt, NoField, MeansNone};
 
 use crate::fault::RecordFault;
 use crate::meaning::null_or;
@@ -22,32 +22,21 @@ fn plain_len(delimiter: u8, bytes: &[u8]) -> usize
     }
 }
 
-fn push_where(into: &mut Bytes, byte: u8, wanted: bool) -> Result<(), NoMemory>
-    ensures { OnOk result (into.new ≡ (if wanted then into.old ++ byte ∷ [] else into.old)) }
+/// Where the next quote stands.
+fn quote_at(bytes: &[u8]) -> Option<usize>
+    ensures piece { IfSome result (λ n. HasPiece bytes.now n) }
+    ensures none { IfNone result (unquoted false bytes.now ≡ None) }
 {
-    if wanted {
-        return into.push(byte);
+    memchr(b'"', bytes)
+}
+
+fn begins_quoted(bytes: &[u8]) -> bool
+    ensures { result ≡ begins_quoted bytes.now }
+{
+    match bytes {
+        [] => false,
+        [b, ..] => *b == b'"',
     }
-    Ok(())
-}
-
-/// Whether a quote has ended the content, where `passed` says that one has just been passed.
-fn is_end(passed: bool, quote: bool) -> bool
-    ensures { result ≡ (passed && not quote) }
-{
-    passed && !quote
-}
-
-fn is_content(passed: bool, quote: bool) -> bool
-    ensures { result ≡ (passed || not quote) }
-{
-    passed || !quote
-}
-
-fn passes(passed: bool, quote: bool) -> bool
-    ensures { result ≡ (quote && not passed) }
-{
-    quote && !passed
 }
 
 /// The content of a quoted field, and how many bytes it takes with its closing quote.
@@ -57,17 +46,15 @@ fn unquote(bytes: &[u8], into: &mut Bytes) -> Result<Option<usize>, NoMemory>
     ensures within { IfOk result (λ r. IfSome r (λ n. n ≤ length bytes.now)) }
     ensures none { result ≡ Ok None → unquoted false bytes.now ≡ None }
 {
-    let mut passed = false;
-    for (i, b) in bytes.iter().enumerate() {
-        let quote = *b == b'"';
-        if is_end(passed, quote) {
-            return Ok(Some(i));
+    let mut at = 0;
+    while let Some(len) = quote_at(&bytes[at..]) {
+        into.append(&bytes[at..at + len])?;
+        at += len + 1;
+        if !begins_quoted(&bytes[at..]) {
+            return Ok(Some(at));
         }
-        push_where(into, *b, is_content(passed, quote))?;
-        passed = passes(passed, quote);
-    }
-    if passed {
-        return Ok(Some(bytes.len()));
+        into.push(b'"')?;
+        at += 1;
     }
     Ok(None)
 }

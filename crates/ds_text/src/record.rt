@@ -4,7 +4,7 @@ ghost use Rattle.ds_value.specs.Values.{letters};
 ghost use Rattle.ds_schema.specs.Schemas.{IsSchema, IsField, row_fits};
 ghost use Rattle.ds_text.specs.Forms.{FormFits};
 ghost use Rattle.ds_text.specs.Records.{SpellsIn, SpellsRow, SpellsNone, SpellsNoRow, has_byte, holds_end, is_too_wide, is_refused, written_row};
-ghost use Rattle.ds_text.specs.RecordLaws.{OneRow, SpelledFits, ReadsBack};
+ghost use Rattle.ds_text.specs.RecordLaws.{OneRow, SpelledFits, ReadsBack, FileReadsBack};
 
 use crate::columns::read_columns;
 use crate::fault::RecordFault;
@@ -156,9 +156,10 @@ pub fn spelled_fits()
 {
 }
 
-/// What is written reads back as the same row.
-#[tactic(auto, using(crate::proofs::RecordProofs::reads_back))]
+/// What is written reads back as the same row, and a file of rows as these rows.
+#[tactic(auto, using(crate::proofs::RecordProofs::reads_back, crate::proofs::RecordProofs::file_reads_back))]
 pub fn reads_back()
-    ensures { ReadsBack }
+    ensures row { ReadsBack }
+    ensures file { FileReadsBack }
 {
 }
