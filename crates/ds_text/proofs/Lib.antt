@@ -1,3 +1,17 @@
 pub mod Again
+pub mod ColumnLaws
+pub mod ColumnRows
+pub mod ColumnWriting
+pub mod FieldLaws
+pub mod FieldRows
+pub mod FieldWriting
+pub mod FrontLaws
+pub mod Fronts
+pub mod Partial
 pub mod PieceLemmas
 pub mod Underway
+pub mod Unquoting
+pub mod RecordProofs
+pub mod Searches
+pub mod Solid
+pub mod Spaces

@@ -4,10 +4,10 @@ use Rattle.std.proofs.lemmas.Bool.{eqb-true}
 use Rattle.std.specs.List.{AllByRecursion}
 use Rattle.std.proofs.lemmas.List.{take_all, take-take, take-append-le, take_min, drop_more, take-append-drop, drop-take, drop-drop}
 use Rattle.std.proofs.Math.Seq.{take-append-add}
-use Rattle.ds_text.specs.Lines.{Reading, split_within, before, with_before, with_line, without_return}
-use Rattle.ds_text.specs.Pieces.{IsOpen, EndsAt, kept}
+use Rattle.ds_text.specs.Lines.{Reading, split_within, before, with_before, with_line, without_return, IsFree}
+use Rattle.ds_text.specs.Pieces.{EndsAt, kept}
 
-pub open_front : (n : ℕ) (bytes : List ℕ) → ((k : ℕ) → k < n → (get_or bytes k 0 == 10) ≡ false) → IsOpen (take n bytes)
+pub open_front : (n : ℕ) (bytes : List ℕ) → ((k : ℕ) → k < n → (get_or bytes k 0 == 10) ≡ false) → IsFree (take n bytes)
 open_front zero bytes h = tt
 open_front (suc n) [] h = tt
 open_front (suc n) (b ∷ bytes) h = (h 0 (omega arith), open_front n bytes (λ k l. h (suc k) (let e : suc k < suc n = omega arith in e)))
@@ -73,7 +73,7 @@ before_before (x ∷ xs) (y ∷ ys) [] true = refl
 before_before (x ∷ xs) (y ∷ ys) [] false = refl
 
 -- a piece of a line stands before what else there is
-pub split_piece : (piece bs : List ℕ) (room : ℕ) → IsOpen piece → split_within (length piece + room) (piece ++ bs) ≡ with_before piece (split_within room bs)
+pub split_piece : (piece bs : List ℕ) (room : ℕ) → IsFree piece → split_within (length piece + room) (piece ++ bs) ≡ with_before piece (split_within room bs)
 split_piece [] bs room h = let e : 0 + room ≡ room = omega arith in ap (λ n. split_within n bs) e ∙ sym (nothing_before (split_within room bs).lines (split_within room bs).too_long)
 split_piece (b ∷ piece) bs room h =
     let e : suc (length piece) + room ≡ suc (length piece + room) = omega arith in
@@ -86,8 +86,8 @@ test_false : (a : ℕ) (b : Bool) → (b ≡ true → ⊥) → b ≡ false
 test_false a true h = absurd (h refl)
 test_false a false h = refl
 
-pub none_open : (bytes : List ℕ) (r : Option ℕ) → IsFirstByte (is_byte 10) bytes r → IfNone r (IsOpen bytes)
-none_open bytes None h = subst IsOpen (take_all (length bytes) bytes (omega arith)) (open_front (length bytes) bytes (λ k l. test_false 0 _ (h k (omega arith) l)))
+pub none_open : (bytes : List ℕ) (r : Option ℕ) → IsFirstByte (is_byte 10) bytes r → IfNone r (IsFree bytes)
+none_open bytes None h = subst IsFree (take_all (length bytes) bytes (omega arith)) (open_front (length bytes) bytes (λ k l. test_false 0 _ (h k (omega arith) l)))
 none_open bytes (Some n) h = tt
 
 pub some_ends : (bytes : List ℕ) (r : Option ℕ) → IsFirstByte (is_byte 10) bytes r → IfSome r (λ n. EndsAt bytes n)

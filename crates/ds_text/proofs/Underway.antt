@@ -1,7 +1,7 @@
 use Rattle.std.proofs.Common.{◌≡◌, ◌≤◌, ◌<◌, ◌+◌, ◌-◌, ◌++◌, ◌∷◌, [], ℕ, zero, suc, List, Bool, true, false, refl, sym, ap, ◌∙◌, arith, length, take, map, min, IsTrue, Result, Ok, Err, append_assoc, append-nil, length-append, length-take, subst}
 use Rattle.ds_text.specs.Lines.{Reading, split_within, lines_within, before, with_before, with_line, without_return, shown}
 use Rattle.ds_text.specs.Readers.{Reader, remaining, first, Reads}
-use Rattle.ds_text.specs.Pieces.{IsOpen, EndsAt, kept, Takes}
+use Rattle.ds_text.specs.Pieces.{kept, Takes}
 use Rattle.ds_text.specs.declared.line_reader.LineFault.{LineFault}
 use Rattle.ds_text.specs.declared.line_reader.LineFault.TheVariants.{Device, Memory, FileTooLong}
 use Rattle.ds_text.proofs.PieceLemmas.{split_piece, before_before, kept_more, shown_kept}

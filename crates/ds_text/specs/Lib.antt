@@ -1,3 +1,9 @@
+pub mod Cells
+pub mod Columns
+pub mod Forms
 pub mod Lines
 pub mod Pieces
 pub mod Readers
+pub mod Reading
+pub mod RecordLaws
+pub mod Records

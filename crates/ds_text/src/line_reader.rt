@@ -1,8 +1,8 @@
 ghost use Rattle.std.specs.Prelude.{◌≡◌, ◌≤◌, ◌<◌, ◌^◌, ◌+◌, ◌-◌, ◌++◌, ◌∷◌, ℕ, [], true, false, length, take, drop, vec_len, IsTrue, IsErr, IfOk, IfErr, OnOk, OnErr, Ok, Err, IfSome, IfNone, get_or, ◌==◌};
 ghost use Rattle.ds_port.specs.Causes.{HasCause};
-ghost use Rattle.ds_text.specs.Lines.{lines_of, without_return, LinesAgain};
+ghost use Rattle.ds_text.specs.Lines.{lines_of, without_return, IsFree, LinesAgain};
 ghost use Rattle.ds_text.specs.Readers.{Reader, Reads, remaining};
-ghost use Rattle.ds_text.specs.Pieces.{Takes, kept, IsOpen, EndsAt};
+ghost use Rattle.ds_text.specs.Pieces.{Takes, kept, EndsAt};
 
 use ds_port::Source;
 use ds_value::{Bytes, NoMemory};
@@ -92,7 +92,7 @@ fn finish(into: &mut Bytes)
 /// Where the line ends in a piece.
 fn end_of_line(bytes: &[u8]) -> Option<usize>
     ensures found { IfSome result (λ n. EndsAt bytes.now n) }
-    ensures open { IfNone result (IsOpen bytes.now) }
+    ensures open { IfNone result (IsFree bytes.now) }
 {
     memchr(b'\n', bytes)
 }
@@ -249,3 +249,77 @@ impl<S: Source> Lines<S> {
     }
 }
 
+
+#[cfg(test)]
+mod tests {
+    use super::*;
+    use ds_port::{FailsAt, MemSource, NeverFails};
+    use std::test::Fail;
+
+    /// All lines, a `|` behind each.
+    fn lines_of(alloc: Global, text: &[u8]) -> Result<Bytes, Fail> {
+        let mut lines = Lines::new(alloc, MemSource::new(text.to_vec(alloc)?, NeverFails));
+        let mut all = Bytes::new(alloc);
+        let mut line = Bytes::new(alloc);
+        for _ in 0..=text.len() {
+            match lines.next_line(&mut line)? {
+                LineEnd::End => return Ok(all),
+                LineEnd::Line => {}
+            }
+            all.append(line.as_slice())?;
+            all.push(b'|')?;
+        }
+        Err(Fail::from("no end"))
+    }
+
+    #[test]
+    fn lines_end_at_their_newlines(rt: HostRuntime) -> Result<(), Fail> {
+        let table: [(&[u8], &[u8]); 10] = [
+            (b"", b""),
+            (b"\n", b"|"),
+            (b"\r", b"|"),
+            (b"a", b"a|"),
+            (b"a\n", b"a|"),
+            (b"a\r\nb", b"a|b|"),
+            (b"a\r\r\n", b"a\r|"),
+            (b"a\rb\n", b"a\rb|"),
+            (b"a\n\nb\n", b"a||b|"),
+            (b"\n\r\n", b"||"),
+        ];
+        for (text, wanted) in table {
+            let all = lines_of(rt.alloc(), text)?;
+            assert_eq!(rt; all.as_slice(), wanted);
+        }
+        Ok(())
+    }
+
+    #[test]
+    fn a_long_line_is_cut(rt: HostRuntime) -> Result<(), Fail> {
+        let alloc = rt.alloc();
+        for (count, wanted) in [(2_097_151, 2_097_151), (2_097_153, 2_097_153), (2_097_154, 2_097_153)] {
+            let mut text = vec![in alloc; b'x'; count]?;
+            text.extend_from_slice(b"\r\nnext")?;
+            let mut lines = Lines::new(alloc, MemSource::new(text, NeverFails));
+            let mut line = Bytes::new(alloc);
+            assert_eq!(rt; lines.next_line(&mut line)?, LineEnd::Line);
+            assert_eq!(rt; line.as_slice().len(), wanted);
+            assert_eq!(rt; line.as_slice().last(), Some(&b'x'));
+            assert_eq!(rt; lines.next_line(&mut line)?, LineEnd::Line);
+            assert_eq!(rt; line.as_slice(), b"next".as_slice());
+            assert_eq!(rt; lines.next_line(&mut line)?, LineEnd::End);
+        }
+        Ok(())
+    }
+
+    #[test]
+    fn a_failing_read_is_a_device_fault(rt: HostRuntime) -> Result<(), Fail> {
+        let alloc = rt.alloc();
+        let failures = FailsAt::new(vec![in alloc; 1]?);
+        let mut lines = Lines::new(alloc, MemSource::new(b"a\nb".to_vec(alloc)?, failures));
+        let mut line = Bytes::new(alloc);
+        assert_eq!(rt; lines.next_line(&mut line)?, LineEnd::Line);
+        assert_eq!(rt; lines.next_line(&mut line), Err(LineFault::Device));
+        assert!(rt; lines.into_inner().has_failed());
+        Ok(())
+    }
+}
