@@ -18,3 +18,4 @@ pub mod FeedLaws
 pub mod Feeding
 pub mod AtOnce
 pub mod Tags
+pub mod Examples
