@@ -3,21 +3,18 @@ use Rattle.std.proofs.Common.{List, None, Option, Some, ap, false, flat_map, inl
 use Rattle.std.specs.List.{AllByRecursion}
 use Rattle.std.specs.Prelude.{pos}
 use Rattle.ds_schema.specs.declared.key.Key.{Key}
-use Rattle.ds_value.specs.Values.{number}
 use Rattle.ds_value.specs.declared.value.Value.{Value}
 use Rattle.ds_value.specs.declared.value.Value.TheVariants.{Int, Null}
-use Rattle.flow_graph.specs.Operators.{by_row, faults, group, import, join, result}
-use Rattle.flow_graph.specs.Parts.{Placed}
+use Rattle.flow_graph.specs.Operators.{by_row, group, import, join, result}
 use Rattle.flow_graph.specs.Shapes.{Wide}
 use Rattle.flow_graph.specs.declared.place.Place.TheVariants.{Hash}
 use Rattle.flow_graph.specs.declared.state.State.{State}
 use Rattle.flow_rules.specs.Soundness.{Sound}
 use Rattle.op_base.specs.Columns.{Row}
 use Rattle.op_base.specs.Meanings.{Grouping, Join, Line, good, line_rows}
-use Rattle.op_base.specs.RowOperators.{RowRule, fails}
+use Rattle.op_base.specs.RowOperators.{RowRule}
 use Rattle.op_base.specs.declared.fault.Fault.{Fault}
 use Rattle.op_base.specs.declared.fault.FaultKind.TheVariants.{Overflow}
-use Rattle.flow_graph.proofs.PassingColumns.{inside}
 use Rattle.flow_graph.specs.declared.state.Spot.TheVariants as spot
 use Rattle.flow_graph.specs.declared.route.Route.TheVariants as route
 

@@ -1,13 +1,13 @@
 -- Derived and refined states, and missed needs, by computing; wrong ones are refused.
-use Rattle.std.proofs.Common.{◌≡◌, ℕ, true, false, List, [], ◌∷◌, refl, ap, Some, None}
+use Rattle.std.proofs.Common.{◌≡◌, ℕ, true, false, List, [], ◌∷◌, refl, ap, Option, Some, None}
 use Rattle.ds_schema.specs.declared.key.Key.{Key}
 use Rattle.op_base.specs.RowOperators.{modify_rule}
 use Rattle.flow_graph.specs.declared.place.Place.TheVariants.{Hash, Modulus}
 use Rattle.flow_graph.specs.declared.route.Route.TheVariants as route
 use Rattle.flow_graph.specs.declared.state.Spot.TheVariants as spot
 use Rattle.flow_graph.specs.declared.state.State.{State}
-use Rattle.flow_graph.specs.Forms.{import, dsread, by_row, tsort, remdup, group, join, merge, lookup, changecapture, funnel, funnel_sequence, funnel_sort}
-use Rattle.flow_rules.specs.declared.need.Need.TheVariants.{NotEntire, Placed, Colocated, SamePlace, Agree, Sorted, MergeSort, Reference}
+use Rattle.flow_graph.specs.Forms.{dsread, by_row, tsort, remdup, group, join, merge, lookup, funnel_sequence, funnel_sort}
+use Rattle.flow_rules.specs.declared.need.Need.TheVariants.{NotEntire, SamePlace, Agree, Sorted, MergeSort, Reference}
 use Rattle.flow_rules.specs.Derive.{derived, routed_state, refined, sorted_state}
 use Rattle.flow_rules.specs.Needs.{missed, route_missed}
 
@@ -23,6 +23,12 @@ bag_by_hash c = record { agree = None; place = spot.Placed (Hash (c ∷ [])); so
 
 abbrev solo : State
 solo = record { agree = Some []; place = spot.Solo; sort = [] }
+
+other_set : (c d : ℕ) (G : List ℕ) → ◌≡◌ {A = Option (List ℕ)} (Some (c ∷ (d ∷ G))) (Some (d ∷ [])) → ⊥
+other_set c d G f = cc
+
+some_set : (c : ℕ) (G : List ℕ) → ◌≡◌ {A = Option (List ℕ)} (Some (c ∷ G)) (Some []) → ⊥
+some_set c G f = cc
 
 -- places are the same by names, and go to the key's column of the output
 joined : derived (join (up 1) (up 0)) 0 (by_hash 1 ∷ (by_hash 0 ∷ [])) ≡ by_hash 0
@@ -64,7 +70,7 @@ hashed : (routed_state false (route.Hash (1 ∷ [])) (record { agree = Some []; 
 hashed = (refl, refl)
 
 not_alone : routed_state false (route.Hash (1 ∷ [])) (by_hash 0) ≡ record { agree = Some (1 ∷ []); place = spot.Placed (Hash (1 ∷ [])); sort = [] } → ⊥
-not_alone e = let f : Some (0 ∷ (1 ∷ [])) ≡ Some (1 ∷ []) = ap (λ (s : State). s.agree) e in cc
+not_alone e = other_set 0 1 [] (ap (λ (s : State). s.agree) e)
 
 -- in turn into one partition
 taken_in_turn : routed_state true route.RoundRobin (by_hash 0) ≡ record { agree = Some (0 ∷ []); place = spot.Solo; sort = [] }
@@ -79,7 +85,7 @@ refinings = (refl, refl, refl, refl)
 
 -- without the columns of the place in the sort nothing is regained
 not_regained : refined 2 (record { agree = Some (1 ∷ []); place = spot.Solo; sort = up 0 }) ≡ record { agree = Some []; place = spot.Solo; sort = up 0 } → ⊥
-not_regained e = let f : Some (1 ∷ []) ≡ Some [] = ap (λ (s : State). s.agree) e in cc
+not_regained e = some_set 1 [] (ap (λ (s : State). s.agree) e)
 
 -- the parts that are missed, in order
 remdup_misses : missed (remdup (up 0)) (record { agree = None; place = spot.None; sort = up 1 } ∷ []) 0 ≡ Agree (up 0) ∷ (Sorted (up 0) ∷ [])
