@@ -1,5 +1,5 @@
 -- What is promised of what a sink got, by the state of its link.
-use Rattle.std.specs.Prelude.{ℕ, Bool, true, false, cond, List, [], ◌∷◌, Option, Some, None}
+use Rattle.std.specs.Prelude.{ℕ, cond, List, [], ◌∷◌, Option, Some, None}
 use Rattle.op_base.specs.Columns.{Row, all_columns, lies}
 use Rattle.flow_graph.specs.declared.state.State.{State}
 use Rattle.flow_graph.specs.Parts.{Agree, Bag}

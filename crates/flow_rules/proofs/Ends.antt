@@ -1,15 +1,14 @@
 -- What a sink gets, and that a flow has one meaning.
-use Rattle.std.proofs.Common.{List, None, Option, Some, ap, ap₂, inl, inr, map, refl, subst, sym, ℕ, ◌≡◌, ◌⊎◌, ◌∷◌, ◌∙◌, []}
+use Rattle.std.proofs.Common.{List, None, Option, ap, ap₂, inl, inr, map, refl, subst, sym, ℕ, ◌≡◌, ◌⊎◌, ◌∷◌, ◌∙◌, []}
 use Rattle.std.specs.List.{AllByRecursion}
 use Rattle.ds_schema.specs.declared.key.Key.{Key}
 use Rattle.flow_graph.specs.Operators.{Op, by_row, result}
-use Rattle.flow_graph.specs.Parts.{Agree, Bag}
+use Rattle.flow_graph.specs.Parts.{Bag}
 use Rattle.flow_graph.specs.Runs.{Forward, InsertedFrom, Lists, Means, Node, Out, arranged_if}
 use Rattle.flow_graph.specs.States.{AgreeIf, Common}
 use Rattle.flow_graph.specs.declared.state.State.{State}
 use Rattle.flow_rules.specs.Soundness.{Keeps}
 use Rattle.op_base.specs.Columns.{Row}
-use Rattle.op_base.specs.Lists.{OneHolds}
 use Rattle.op_base.specs.RowOperators.{RowRule}
 use Rattle.flow_graph.proofs.StateLaws.{holds_plain}
 use Rattle.flow_rules.proofs.FlowAll.{along_all}

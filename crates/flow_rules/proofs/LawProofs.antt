@@ -1,24 +1,21 @@
 -- The laws as they are stated, from the lemmas on each operator, route and flow.
 use Rattle.std.proofs.Common.{◌≡◌, ◌≢◌, ℕ, ◌<◌, Bool, true, cond, List, [], ◌∷◌, map, refl, sym, subst, length, Option, Some, None, IsPermutation}
-use Rattle.std.specs.List.{AllByRecursion, range_with_len}
+use Rattle.std.specs.List.{AllByRecursion}
 use Rattle.op_base.specs.Columns.{Row, all_columns, lies}
 use Rattle.op_base.specs.Lists.{joined}
 use Rattle.flow_graph.specs.declared.route.Route.{Route}
-use Rattle.flow_graph.specs.declared.state.State.{State}
-use Rattle.flow_graph.specs.Forms.{form}
 use Rattle.flow_graph.specs.Grades.{set_grade, agree_grade, Meets}
 use Rattle.flow_graph.specs.Operators.{Op, by_row, faults}
-use Rattle.flow_graph.specs.Parts.{Agree, Bag}
-use Rattle.flow_graph.specs.Runs.{Out, Node, Means, faults_on, slice}
+use Rattle.flow_graph.specs.Parts.{Bag}
+use Rattle.flow_graph.specs.Runs.{Out, Node}
 use Rattle.flow_graph.specs.States.{AgreeIf}
-use Rattle.flow_rules.specs.Laws.{Stands, OperatorHolds, FaultsAgree, RouteHolds, SinksMeet, OneMeaning}
+use Rattle.flow_rules.specs.Laws.{OperatorHolds, FaultsAgree, RouteHolds, SinksMeet, OneMeaning}
 use Rattle.flow_rules.proofs.Acceptance.{needs_met, route_met}
 use Rattle.flow_rules.proofs.Ends.{one_meaning_all, sink_meets}
 use Rattle.flow_rules.proofs.FeedOps.{gives_meant, faults_meant}
 use Rattle.flow_rules.proofs.NeedTypes.{Needs}
 use Rattle.flow_rules.proofs.OpHolds.{op_holds, op_faults}
 use Rattle.flow_rules.proofs.RouteOps.{route_holds}
-use Rattle.flow_graph.proofs.PartLaws.{agree_bag}
 
 pub operator_holds : (op : Op) → OperatorHolds op
 operator_holds op ins outs states degree inputs wholes s q sent port g =

@@ -16,3 +16,5 @@ pub mod FlowAll
 pub mod Ends
 pub mod LawProofs
 pub mod Wrong
+pub mod StateExamples
+pub mod FlowExamples

@@ -1,5 +1,5 @@
 -- Rules that don't hold, refuted by examples.
-use Rattle.std.proofs.Common.{◌≡◌, ◌≢◌, ℕ, ◌%◌, ◌<◌, ◌==◌, Bool, true, false, cond, inl, inr, List, [], ◌∷◌, map, refl, sym, ap, ap₂, ◌∙◌, subst, arith, length, lit<, Some, None, mod-lt}
+use Rattle.std.proofs.Common.{◌≡◌, ℕ, ◌%◌, ◌<◌, ◌==◌, Bool, true, false, cond, inl, inr, List, [], ◌∷◌, refl, sym, ap₂, ◌∙◌, subst, arith, lit<, Some, mod-lt}
 use Rattle.std.specs.Prelude.{pos}
 use Rattle.std.proofs.lemmas.Bool.Decides.{nat_tests}
 use Rattle.std.proofs.lemmas.List.Sorted.{IsPermutation-append_comm, IsPermutation-refl}
@@ -17,7 +17,7 @@ use Rattle.flow_graph.specs.declared.state.Spot.TheVariants as spot
 use Rattle.flow_graph.specs.Destinations.{lanes_to}
 use Rattle.flow_graph.specs.Operators.{join, result}
 use Rattle.flow_graph.specs.Parts.{Agree}
-use Rattle.flow_graph.specs.Placing.{place_number, hash_number}
+use Rattle.flow_graph.specs.Placing.{place_number}
 use Rattle.flow_graph.specs.Runs.{Arrives}
 use Rattle.flow_graph.specs.States.{Holds}
 use Rattle.flow_rules.specs.WrongRules.{RemdupWhereColocated, RepartitionAgreesAlone, AnyKeepsSort, JoinsLieApart, RegainWithoutSort}

@@ -2,11 +2,9 @@
 use Rattle.std.specs.Prelude.{◌≡◌, ◌≢◌, ℕ, ◌<◌, Bool, true, false, if◌then◌else◌, List, [], ◌∷◌, map, length, Option, Some, None}
 use Rattle.std.specs.List.{range_with_len}
 use Rattle.ds_schema.specs.declared.key.Key.{Key}
-use Rattle.ds_schema.specs.Rows.{cols}
 use Rattle.op_base.specs.Columns.{Row, lies}
 use Rattle.op_base.specs.Meanings.{Join}
 use Rattle.flow_graph.specs.declared.state.State.{State}
-use Rattle.flow_graph.specs.declared.state.Spot.{Spot}
 use Rattle.flow_graph.specs.declared.state.Spot.TheVariants as spot
 use Rattle.flow_graph.specs.declared.place.Place.TheVariants as place
 use Rattle.flow_graph.specs.declared.route.Route.TheVariants as route

@@ -20,3 +20,4 @@ pub mod FeedLaws
 pub mod Feeding
 pub mod AtOnce
 pub mod Tags
+pub mod Examples

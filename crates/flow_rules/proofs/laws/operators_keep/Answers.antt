@@ -1,4 +1,3 @@
-use Rattle.std.proofs.Common.{List}
 use Rattle.flow_graph.specs.Operators.{import, dsread, by_row, tsort, remdup, group, join, merge, lookup, changecapture, funnel, funnel_sequence, funnel_sort}
 use Rattle.flow_rules.proofs.LawProofs.{operator_holds}
 use Rattle.flow_rules.proofs.laws.operators_keep.Goals as goal
