@@ -76,7 +76,7 @@ point_split n bytes e h =
 pub whole_alone : (n : ℕ) (bytes : List ℕ) → n ≡ length bytes → bytes ≡ bytes ++ point_text (take (length bytes - n) (drop n bytes))
 whole_alone n bytes h = let none : length bytes - n ≡ 0 = omega arith in rw none (sym (append-nil bytes))
 
-number_behind-zeros : (n k : ℕ) → number_behind n (replicate k 48) ≡ n * 10 ^ k
+pub number_behind-zeros : (n k : ℕ) → number_behind n (replicate k 48) ≡ n * 10 ^ k
 number_behind-zeros n zero = omega arith
 number_behind-zeros n (suc k) = number_behind-zeros (n * 10 + (48 - 48)) k ∙ (ap (λ m. m * 10 ^ k) (omega arith) ∙ (mul_assoc n 10 (10 ^ k) ∙ ap (λ m. n * m) (sym (pow-succ' 10 k))))
 

@@ -6,3 +6,4 @@ pub mod DecimalTexts
 pub mod Calendars
 pub mod LastDigits
 pub mod DateTexts
+pub mod Spellings
