@@ -3,6 +3,7 @@ use Rattle.std.proofs.Common.{Bool, List, None, Option, Some, ap, ap₂, arith, 
 use Rattle.ds_schema.specs.Rows.{cols, has, sub, ways}
 use Rattle.ds_schema.specs.declared.key.Key.{Key}
 use Rattle.ds_value.specs.declared.value.Value.{Value}
+use Rattle.flow_graph.specs.Laws.{SortedAsNeeded}
 use Rattle.flow_graph.specs.Forms.{form, sort_key}
 use Rattle.flow_graph.specs.Operators.{Op, by_row, changecapture, dsread, faults, funnel, funnel_sequence, funnel_sort, group, import, join, lookup, merge, remdup, result, tsort}
 use Rattle.flow_graph.specs.Runs.{InsertedFrom, arranged_if}
@@ -16,13 +17,7 @@ use Rattle.op_base.proofs.SortedInputs.{arranged_by_subs, by_key_arranged, sub_a
 abbrev pub sort_need : Op → ℕ → Option (List Key)
 sort_need o i = sort_key (form o) i
 
--- each list is as it was, or arranged as its input needs
-abbrev pub AsNeeded : Op → ℕ → List (List Row) → List (List Row) → Type 0
-AsNeeded op i [] [] = Unit {0}
-AsNeeded op i (xs ∷ inputs) (ys ∷ others) = ((ys ≡ xs) ⊎ ((K : List Key) × (sort_need op i ≡ Some K) × (ys ≡ arranged K xs))) × AsNeeded op (suc i) inputs others
-AsNeeded op i inputs others = ⊥
-
-pub as_needed : (sorts : ℕ → Option (List Key)) (whole : ℕ → List Row) (op : Op) (i : ℕ) (ins : List ℕ) → InsertedFrom sorts op i ins → AsNeeded op i (map whole ins) (map (λ l. arranged_if (sorts l) (whole l)) ins)
+pub as_needed : (sorts : ℕ → Option (List Key)) (whole : ℕ → List Row) (op : Op) (i : ℕ) (ins : List ℕ) → InsertedFrom sorts op i ins → SortedAsNeeded op i (map whole ins) (map (λ l. arranged_if (sorts l) (whole l)) ins)
 as_needed sorts whole op i [] h = tt
 as_needed sorts whole op i (l ∷ ins) h = (go h.0, as_needed sorts whole op (suc i) ins h.1)
   where
@@ -34,7 +29,7 @@ as_needed sorts whole op i (l ∷ ins) h = (go h.0, as_needed sorts whole op (su
     go (inl e) = inl (ap (λ o. arranged_if o (whole l)) e)
     go (inr e) = subst (λ o. (arranged_if o (whole l) ≡ whole l) ⊎ ((K : List Key) × (sort_need op i ≡ Some K) × (arranged_if o (whole l) ≡ arranged K (whole l)))) (sym e) (need (sort_need op i) refl)
 
-none_needed : (op : Op) → ((i : ℕ) → sort_need op i ≡ None) → (i : ℕ) (inputs others : List (List Row)) → AsNeeded op i inputs others → others ≡ inputs
+none_needed : (op : Op) → ((i : ℕ) → sort_need op i ≡ None) → (i : ℕ) (inputs others : List (List Row)) → SortedAsNeeded op i inputs others → others ≡ inputs
 none_needed op h i [] [] k = refl
 none_needed op h i [] (ys ∷ others) k = absurd k
 none_needed op h i (xs ∷ inputs) [] k = absurd k
@@ -45,7 +40,7 @@ none_needed op h i (xs ∷ inputs) (ys ∷ others) k = ap₂ (λ a b. a ∷ b) (
     go (inr e) = let f : None ≡ Some (e.0) = sym (h i) ∙ e.1 in cc
 
 -- the rows of each value of each input are the same
-same_subs : (op : Op) (keys : List (List Key)) (i : ℕ) → ((k : ℕ) → k < length keys → sort_need op (i + k) ≡ Some (get_keys keys k)) → (v : List Value) (inputs others : List (List Row)) → AsNeeded op i inputs others → subs (columns_of keys) v others ≡ subs (columns_of keys) v inputs
+same_subs : (op : Op) (keys : List (List Key)) (i : ℕ) → ((k : ℕ) → k < length keys → sort_need op (i + k) ≡ Some (get_keys keys k)) → (v : List Value) (inputs others : List (List Row)) → SortedAsNeeded op i inputs others → subs (columns_of keys) v others ≡ subs (columns_of keys) v inputs
 same_subs op [] i h v inputs others k = refl
 same_subs op (K ∷ keys) i h v [] [] k = refl
 same_subs op (K ∷ keys) i h v [] (ys ∷ others) k = absurd k
@@ -67,7 +62,7 @@ same_subs op (K ∷ keys) i h v (xs ∷ inputs) (ys ∷ others) k =
         ap (sub (cols K) v) (e.2 ∙ ap (λ L. arranged L xs) g) ∙ sub_arranged K v xs
 
 -- one input that needs a sort
-one_needed : (op : Op) (K : List Key) → sort_need op 0 ≡ Some K → (inputs others : List (List Row)) → AsNeeded op 0 inputs others → (input 0 others ≡ input 0 inputs) ⊎ (input 0 others ≡ arranged K (input 0 inputs))
+one_needed : (op : Op) (K : List Key) → sort_need op 0 ≡ Some K → (inputs others : List (List Row)) → SortedAsNeeded op 0 inputs others → (input 0 others ≡ input 0 inputs) ⊎ (input 0 others ≡ arranged K (input 0 inputs))
 one_needed op K h [] [] k = inl refl
 one_needed op K h [] (ys ∷ others) k = absurd k
 one_needed op K h (xs ∷ inputs) [] k = absurd k
@@ -78,7 +73,7 @@ one_needed op K h (xs ∷ inputs) (ys ∷ others) k = go k.0
     go (inr e) = let f : Some (e.0) ≡ Some K = sym e.1 ∙ h in let g : e.0 ≡ K = cc in inr (e.2 ∙ ap (λ L. arranged L xs) g)
 
 -- all inputs of a sorted funnel need the same
-same_joined : (keys : List Key) (v : List Value) (i : ℕ) (inputs others : List (List Row)) → AsNeeded (funnel_sort keys) i inputs others → joined (map (sub (cols keys) v) others) ≡ joined (map (sub (cols keys) v) inputs)
+same_joined : (keys : List Key) (v : List Value) (i : ℕ) (inputs others : List (List Row)) → SortedAsNeeded (funnel_sort keys) i inputs others → joined (map (sub (cols keys) v) others) ≡ joined (map (sub (cols keys) v) inputs)
 same_joined keys v i [] [] k = refl
 same_joined keys v i [] (ys ∷ others) k = absurd k
 same_joined keys v i (xs ∷ inputs) [] k = absurd k
@@ -105,7 +100,7 @@ group_needs : (g : Grouping) → g.hashes ≡ false → (k : ℕ) → k < 1 → 
 group_needs g e zero l = ap (λ b. cond b None (Some g.keys)) e
 group_needs g e (suc k) l = absurd (omega arith)
 
-group_same : {Y : Type 0} (g : Grouping) (rule : List Value → List (List Row) → List Y) (inputs others : List (List Row)) → AsNeeded (group g) 0 inputs others → for_values g.hashes (ways g.keys) (cols g.keys ∷ []) rule others ≡ for_values g.hashes (ways g.keys) (cols g.keys ∷ []) rule inputs
+group_same : {Y : Type 0} (g : Grouping) (rule : List Value → List (List Row) → List Y) (inputs others : List (List Row)) → SortedAsNeeded (group g) 0 inputs others → for_values g.hashes (ways g.keys) (cols g.keys ∷ []) rule others ≡ for_values g.hashes (ways g.keys) (cols g.keys ∷ []) rule inputs
 group_same g rule inputs others k = go g.hashes refl
   where
     go : (b : Bool) → g.hashes ≡ b → for_values b (ways g.keys) (cols g.keys ∷ []) rule others ≡ for_values b (ways g.keys) (cols g.keys ∷ []) rule inputs
@@ -113,7 +108,7 @@ group_same g rule inputs others k = go g.hashes refl
     go false e = values_same (ways g.keys) (cols g.keys ∷ []) rule inputs others (λ v. same_subs (group g) (g.keys ∷ []) 0 (group_needs g e) v inputs others k)
 
 -- The meaning of an operator with a sort need is unchanged when such an input is arranged by the keys of the need.
-pub result_same : (op : Op) (q : ℕ) (inputs others : List (List Row)) → AsNeeded op 0 inputs others → result op q others ≡ result op q inputs
+pub result_same : (op : Op) (q : ℕ) (inputs others : List (List Row)) → SortedAsNeeded op 0 inputs others → result op q others ≡ result op q inputs
 result_same (import lines rejects beyond) q inputs others k = refl
 result_same (dsread segments place) q inputs others k = refl
 result_same (by_row rule) q inputs others k = ap (result (by_row rule) q) (none_needed (by_row rule) (λ i. refl) 0 inputs others k)
@@ -132,7 +127,7 @@ result_same funnel q inputs others k = ap joined (none_needed funnel (λ i. refl
 result_same funnel_sequence q inputs others k = ap joined (none_needed funnel_sequence (λ i. refl) 0 inputs others k)
 result_same (funnel_sort keys) q inputs others k = arranged_by_subs keys (joined others) (joined inputs) (λ v. filter_joined (has (cols keys) v) others ∙ same_joined keys v 0 inputs others k ∙ sym (filter_joined (has (cols keys) v) inputs))
 
-pub faults_same : (op : Op) (inputs others : List (List Row)) → AsNeeded op 0 inputs others → faults op others ≡ faults op inputs
+pub faults_same : (op : Op) (inputs others : List (List Row)) → SortedAsNeeded op 0 inputs others → faults op others ≡ faults op inputs
 faults_same (import lines rejects beyond) inputs others k = refl
 faults_same (dsread segments place) inputs others k = refl
 faults_same (by_row rule) inputs others k = ap (faults (by_row rule)) (none_needed (by_row rule) (λ i. refl) 0 inputs others k)

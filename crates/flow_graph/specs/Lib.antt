@@ -2,6 +2,7 @@ pub mod Columns
 pub mod Destinations
 pub mod Forms
 pub mod Grades
+pub mod Laws
 pub mod Operators
 pub mod Parts
 pub mod Placing

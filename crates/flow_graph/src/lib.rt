@@ -3,6 +3,7 @@
 
 mod columns;
 mod flow;
+pub mod laws;
 mod op_kind;
 mod place;
 mod route;

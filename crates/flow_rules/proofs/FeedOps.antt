@@ -10,7 +10,7 @@ use Rattle.flow_graph.specs.Shapes.{IsShaped, SameWays}
 use Rattle.flow_graph.specs.States.{AllHold, Holds}
 use Rattle.flow_graph.specs.declared.state.State.{State}
 use Rattle.op_base.specs.Columns.{Row}
-use Rattle.op_base.specs.Feeds.{by_runs}
+use Rattle.op_base.specs.Feeds.{AreSorted, by_runs}
 use Rattle.op_base.specs.Keyed.{arranged, by_key, for_values}
 use Rattle.op_base.specs.Lists.{IsArranged, firsts, joined}
 use Rattle.op_base.specs.Meanings.{Grouping, change_rule, columns_of, group_faults, group_rows, input, join_rule, merge_rule, one_row, ways_of}
@@ -18,7 +18,7 @@ use Rattle.flow_graph.proofs.StateLaws.{holds_plain}
 use Rattle.flow_rules.proofs.NeedTypes.{KeyedNeeds, Needs, NotEntire, OtherNeeds, SortedBy, SortedIf}
 use Rattle.flow_rules.proofs.OpHolds.{GivesMeant, first_ways, meant_faults_on, some_keys}
 use Rattle.op_base.proofs.All.{all_at}
-use Rattle.op_base.proofs.FeedLaws.{Up, by_runs_is}
+use Rattle.op_base.proofs.FeedLaws.{by_runs_is}
 use Rattle.op_base.proofs.KeyLaws.{by_key_ranks}
 use Rattle.op_base.proofs.KeySorts.{arranged_first}
 use Rattle.op_base.proofs.Merging.{merge_is}
@@ -31,7 +31,7 @@ part_sorted K s parts whole e b h p =
 in_ways : (ds : List Bool) (K : List Key) (rows : List Row) → ways K ≡ ds → IsArranged (row_cmp K) rows → IsArranged (λ x y. vals_cmp ds (val (cols K) x) (val (cols K) y)) rows
 in_ways ds K rows e h = subst (λ w. IsArranged (λ x y. vals_cmp w (val (cols K) x) (val (cols K) y)) rows) e h
 
-others_up : (agree : Bool) (K0 : List Key) (s0 : State) (ds : List Bool) (keys : List (List Key)) (states : List State) (inputs : List (List (List Row))) (wholes : List (List Row)) → SameWays ds keys → OtherNeeds agree K0 s0 keys states → AllHold states inputs wholes → (p : ℕ) → Up ds (columns_of keys) (slice p inputs)
+others_up : (agree : Bool) (K0 : List Key) (s0 : State) (ds : List Bool) (keys : List (List Key)) (states : List State) (inputs : List (List (List Row))) (wholes : List (List Row)) → SameWays ds keys → OtherNeeds agree K0 s0 keys states → AllHold states inputs wholes → (p : ℕ) → AreSorted ds (columns_of keys) (slice p inputs)
 others_up agree K0 s0 ds [] states inputs wholes w n h p = tt
 others_up agree K0 s0 ds (K ∷ keys) [] inputs wholes w n h p = absurd n
 others_up agree K0 s0 ds (K ∷ keys) (s ∷ states) [] wholes w n h p = tt
@@ -39,7 +39,7 @@ others_up agree K0 s0 ds (K ∷ keys) (s ∷ states) (parts ∷ inputs) [] w n h
 others_up agree K0 s0 ds (K ∷ keys) (s ∷ states) (parts ∷ inputs) (whole ∷ wholes) w n h p =
     (in_ways ds K (get_or parts p []) w.0 (part_sorted K s parts whole n.0 n.3 h.0 p), others_up agree K0 s0 ds keys states inputs wholes w.1 n.4 h.1 p)
 
-keyed_up : (agree : Bool) (ds : List Bool) (keys : List (List Key)) (states : List State) (inputs : List (List (List Row))) (wholes : List (List Row)) → SameWays ds keys → KeyedNeeds agree keys states → AllHold states inputs wholes → (p : ℕ) → Up ds (columns_of keys) (slice p inputs)
+keyed_up : (agree : Bool) (ds : List Bool) (keys : List (List Key)) (states : List State) (inputs : List (List (List Row))) (wholes : List (List Row)) → SameWays ds keys → KeyedNeeds agree keys states → AllHold states inputs wholes → (p : ℕ) → AreSorted ds (columns_of keys) (slice p inputs)
 keyed_up agree ds [] states inputs wholes w n h p = tt
 keyed_up agree ds (K ∷ keys) [] inputs wholes w n h p = absurd n
 keyed_up agree ds (K ∷ keys) (s ∷ states) [] wholes w n h p = tt
@@ -47,7 +47,7 @@ keyed_up agree ds (K ∷ keys) (s ∷ states) (parts ∷ inputs) [] w n h p = ab
 keyed_up agree ds (K ∷ keys) (s ∷ states) (parts ∷ inputs) (whole ∷ wholes) w n h p =
     (in_ways ds K (get_or parts p []) w.0 (part_sorted K s parts whole n.0 n.3 h.0 p), others_up agree K s ds keys states inputs wholes w.1 n.4 h.1 p)
 
-one_up : (K : List Key) (s : State) (inputs : List (List (List Row))) (wholes : List (List Row)) → NotEntire s → SortedBy K s → AllHold (s ∷ []) inputs wholes → (p : ℕ) → Up (ways K) (cols K ∷ []) (slice p inputs)
+one_up : (K : List Key) (s : State) (inputs : List (List (List Row))) (wholes : List (List Row)) → NotEntire s → SortedBy K s → AllHold (s ∷ []) inputs wholes → (p : ℕ) → AreSorted (ways K) (cols K ∷ []) (slice p inputs)
 one_up K s [] wholes e b h p = tt
 one_up K s (parts ∷ inputs) [] e b h p = absurd h
 one_up K s (parts ∷ inputs) (whole ∷ wholes) e b h p = (part_sorted K s parts whole e b h.0 p, tt)

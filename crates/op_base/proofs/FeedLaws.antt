@@ -10,7 +10,7 @@ use Rattle.std.specs.declared.cmp.Ordering.TheVariants.{Equal, Greater, Less}
 use Rattle.ds_schema.specs.Rows.{has, sub, val, vals_cmp}
 use Rattle.ds_value.specs.declared.value.Value.{Value}
 use Rattle.op_base.specs.Columns.{Row}
-use Rattle.op_base.specs.Feeds.{behind, behinds, by_runs, front, fronts, head_in, heads_in, least_of, rows_in, run_by_run, taken_off}
+use Rattle.op_base.specs.Feeds.{AreSorted, behind, behinds, by_runs, front, fronts, head_in, heads_in, least_of, rows_in, run_by_run, taken_off}
 use Rattle.op_base.specs.Keyed.{for_values, keys_in, same_vals, subs}
 use Rattle.op_base.specs.Lists.{IsArranged, firsts}
 use Rattle.op_base.proofs.All.{all_append, all_firsts, all_map, flat_agree_all}
@@ -19,12 +19,6 @@ use Rattle.op_base.proofs.KeyValues.{passed_all, rank_of, same_vals_itself, same
 use Rattle.op_base.proofs.Orders.{has_val, val_has, vals_exact, vals_total}
 use Rattle.op_base.proofs.Ranks.{filter_all, filter_none, firsts_ascend, firsts_filter}
 use Rattle.op_base.proofs.SortedInputs.{ascends_arranged, keys_of_subs, tie_is_same}
-
--- each list in the order of its keys
-abbrev pub Up : List Bool → List (List ℕ) → List (List Row) → Type 0
-Up ds [] inputs = Unit {0}
-Up ds (cs ∷ columns) [] = Unit {0}
-Up ds (cs ∷ columns) (rows ∷ inputs) = IsArranged (λ x y. vals_cmp ds (val cs x) (val cs y)) rows × Up ds columns inputs
 
 front_behind : (cs : List ℕ) (k : List Value) (rows : List Row) → rows ≡ front cs k rows ++ behind cs k rows
 front_behind cs k [] = refl
@@ -113,14 +107,14 @@ all_right : {X : Type 0} (P : X → Type 0) (xs ys : List X) → AllByRecursion 
 all_right P [] ys h = h
 all_right P (x ∷ xs) ys h = all_right P xs ys h.1
 
-fronts_are : (ds : List Bool) (columns : List (List ℕ)) (k : List Value) (inputs : List (List Row)) → Up ds columns inputs → AllByRecursion (λ v. is_lt (vals_cmp ds v k) ≡ false) (heads_in columns inputs) → fronts columns k inputs ≡ subs columns k inputs
+fronts_are : (ds : List Bool) (columns : List (List ℕ)) (k : List Value) (inputs : List (List Row)) → AreSorted ds columns inputs → AllByRecursion (λ v. is_lt (vals_cmp ds v k) ≡ false) (heads_in columns inputs) → fronts columns k inputs ≡ subs columns k inputs
 fronts_are ds [] k inputs up h = refl
 fronts_are ds (cs ∷ columns) k [] up h = refl
 fronts_are ds (cs ∷ columns) k (rows ∷ inputs) up h =
     let P = λ (v : List Value). is_lt (vals_cmp ds v k) ≡ false in
     ap₂ (λ a b. a ∷ b) (front_is ds cs k rows (behind_above ds cs k rows up.0 (all_left P (head_in cs rows) (heads_in columns inputs) h)).0) (fronts_are ds columns k inputs up.1 (all_right P (head_in cs rows) (heads_in columns inputs) h))
 
-behinds_up : (ds : List Bool) (columns : List (List ℕ)) (k : List Value) (inputs : List (List Row)) → Up ds columns inputs → AllByRecursion (λ v. is_lt (vals_cmp ds v k) ≡ false) (heads_in columns inputs) → Up ds columns (behinds columns k inputs) × AllByRecursion (λ v. vals_cmp ds k v ≡ Less) (keys_in columns (behinds columns k inputs))
+behinds_up : (ds : List Bool) (columns : List (List ℕ)) (k : List Value) (inputs : List (List Row)) → AreSorted ds columns inputs → AllByRecursion (λ v. is_lt (vals_cmp ds v k) ≡ false) (heads_in columns inputs) → AreSorted ds columns (behinds columns k inputs) × AllByRecursion (λ v. vals_cmp ds k v ≡ Less) (keys_in columns (behinds columns k inputs))
 behinds_up ds [] k inputs up h = (tt, tt)
 behinds_up ds (cs ∷ columns) k [] up h = (tt, tt)
 behinds_up ds (cs ∷ columns) k (rows ∷ inputs) up h =
@@ -212,7 +206,7 @@ some_key (cs ∷ columns) k ((r ∷ rows) ∷ inputs) (inr i) e =
     right [] ys q = q
     right (x ∷ xs) ys q = cc
 
-firsts_split : (ds : List Bool) (columns : List (List ℕ)) (k : List Value) (inputs : List (List Row)) → Up ds columns inputs → AllByRecursion (λ v. is_lt (vals_cmp ds v k) ≡ false) (heads_in columns inputs) → Among k (heads_in columns inputs) →
+firsts_split : (ds : List Bool) (columns : List (List ℕ)) (k : List Value) (inputs : List (List Row)) → AreSorted ds columns inputs → AllByRecursion (λ v. is_lt (vals_cmp ds v k) ≡ false) (heads_in columns inputs) → Among k (heads_in columns inputs) →
     firsts (vals_cmp ds) (keys_in columns inputs) ≡ k ∷ firsts (vals_cmp ds) (keys_in columns (behinds columns k inputs))
 firsts_split ds columns k inputs up h among =
     same_arranged (vals_total ds) (firsts R qs) (k ∷ firsts R bs) (ascends_arranged (vals_total ds) (firsts R qs) (firsts_ascend (vals_total ds) qs)) (ascends_arranged (vals_total ds) (k ∷ firsts R bs) (all_firsts (λ v. R k v ≡ Less) R bs above_all, firsts_ascend (vals_total ds) bs))
@@ -266,11 +260,11 @@ no_rows (cs ∷ columns) [] e = refl
 no_rows (cs ∷ columns) ([] ∷ inputs) e = no_rows columns inputs (omega arith)
 no_rows (cs ∷ columns) ((r ∷ rows) ∷ inputs) e = absurd (omega arith)
 
-runs_to : {Y : Type 0} (n : ℕ) (ds : List Bool) (columns : List (List ℕ)) (rule : List Value → List (List Row) → List Y) (inputs : List (List Row)) → Up ds columns inputs → rows_in columns inputs ≤ n → run_by_run n ds columns rule inputs ≡ for_values false ds columns rule inputs
+runs_to : {Y : Type 0} (n : ℕ) (ds : List Bool) (columns : List (List ℕ)) (rule : List Value → List (List Row) → List Y) (inputs : List (List Row)) → AreSorted ds columns inputs → rows_in columns inputs ≤ n → run_by_run n ds columns rule inputs ≡ for_values false ds columns rule inputs
 runs_to zero ds columns rule inputs up l = sym (ap (λ qs. flat_map (λ v. rule v (subs columns v inputs)) (firsts (vals_cmp ds) qs)) (no_rows columns inputs l))
 runs_to {Y} (suc n) ds columns rule inputs up l = go (λ others u m. runs_to n ds columns rule others u m) (heads_in columns inputs) refl
   where
-    go : ((others : List (List Row)) → Up ds columns others → rows_in columns others ≤ n → run_by_run n ds columns rule others ≡ for_values false ds columns rule others) → (hs : List (List Value)) → heads_in columns inputs ≡ hs → taken_off ds columns rule inputs (run_by_run n ds columns rule) hs ≡ for_values false ds columns rule inputs
+    go : ((others : List (List Row)) → AreSorted ds columns others → rows_in columns others ≤ n → run_by_run n ds columns rule others ≡ for_values false ds columns rule others) → (hs : List (List Value)) → heads_in columns inputs ≡ hs → taken_off ds columns rule inputs (run_by_run n ds columns rule) hs ≡ for_values false ds columns rule inputs
     go rec [] e = sym (ap (λ qs. flat_map (λ v. rule v (subs columns v inputs)) (firsts (vals_cmp ds) qs)) (no_heads columns inputs e))
     go rec (v ∷ vs) e = finish
       where
@@ -283,7 +277,7 @@ runs_to {Y} (suc n) ds columns rule inputs up l = go (λ others u m. runs_to n d
         among : Among k (heads_in columns inputs)
         among = subst (Among k) (sym e) (least_among ds v vs)
 
-        ups : Up ds columns (behinds columns k inputs) × AllByRecursion (λ u. vals_cmp ds k u ≡ Less) (keys_in columns (behinds columns k inputs))
+        ups : AreSorted ds columns (behinds columns k inputs) × AllByRecursion (λ u. vals_cmp ds k u ≡ Less) (keys_in columns (behinds columns k inputs))
         ups = behinds_up ds columns k inputs up low
 
         give : List Value → List Y
@@ -304,5 +298,5 @@ runs_to {Y} (suc n) ds columns rule inputs up l = go (λ others u m. runs_to n d
             ∙ sym (ap (flat_map give) (firsts_split ds columns k inputs up low among))
 
 -- On lists in the order of the keys, taking the runs of the least value off, again and again, gives what is meant.
-pub by_runs_is : {Y : Type 0} (ds : List Bool) (columns : List (List ℕ)) (rule : List Value → List (List Row) → List Y) (inputs : List (List Row)) → Up ds columns inputs → by_runs ds columns rule inputs ≡ for_values false ds columns rule inputs
+pub by_runs_is : {Y : Type 0} (ds : List Bool) (columns : List (List ℕ)) (rule : List Value → List (List Row) → List Y) (inputs : List (List Row)) → AreSorted ds columns inputs → by_runs ds columns rule inputs ≡ for_values false ds columns rule inputs
 by_runs_is ds columns rule inputs up = runs_to (rows_in columns inputs) ds columns rule inputs up (omega arith)

@@ -3,7 +3,7 @@ use Rattle.std.proofs.Common.{Bool, List, ap, append_assoc, ap₂, arith, cond, 
 use Rattle.ds_schema.specs.Rows.{has, val}
 use Rattle.ds_value.specs.declared.value.Value.{Value}
 use Rattle.op_base.specs.Columns.{Row}
-use Rattle.op_base.specs.Feeds.{behind, behinds, emits, emits_in, end_at, fed, front, fronts, has_some, head_in, heads_in, least_of, left, left_in, rest_of, rows_in, run_by_run, run_done, runs_done, taken_off}
+use Rattle.op_base.specs.Feeds.{IsOpen, behind, behinds, emits, emits_in, end_at, fed, front, fronts, has_some, head_in, heads_in, least_of, left, left_in, rest_of, rows_in, run_by_run, run_done, runs_done, taken_off}
 use Rattle.op_base.specs.Meanings.{change}
 use Rattle.op_base.proofs.All.{both_true}
 use Rattle.op_base.proofs.FeedLaws.{Among, fewer, least_among}
@@ -154,12 +154,6 @@ done_more cs x (r ∷ rows) h = ap has_some (some_more cs (val cs r) x rows h).1
 head_more : (cs : List ℕ) (x : Row) (rows : List Row) → run_done cs false rows ≡ true → head_in cs (rows ++ (x ∷ [])) ≡ head_in cs rows
 head_more cs x [] h = cc
 head_more cs x (r ∷ rows) h = refl
-
--- a port that hasn't ended
-abbrev pub IsOpen : ℕ → List Bool → Type 0
-IsOpen i [] = ⊥
-IsOpen zero (e ∷ ended) = e ≡ false
-IsOpen (suc i) (e ∷ ended) = IsOpen i ended
 
 open_port : (cs : List ℕ) (e : Bool) (rows : List Row) → e ≡ false → run_done cs e rows ≡ true → run_done cs false rows ≡ true
 open_port cs e rows f h = subst (λ b. run_done cs b rows ≡ true) f h

@@ -10,6 +10,8 @@ use Rattle.std.specs.declared.cmp.Ordering.TheVariants.{Equal, Greater, Less}
 use Rattle.ds_schema.specs.Rows.{row_cmp}
 use Rattle.ds_schema.specs.declared.key.Key.{Key}
 use Rattle.op_base.specs.Columns.{Row}
+use Rattle.op_base.specs.Keyed.{arranged}
+use Rattle.op_base.proofs.KeyLaws.{by_key_ranks}
 use Rattle.op_base.specs.Lists.{AllEmpty, Interleaves, IsArranged, Merges, joined}
 use Rattle.op_base.proofs.All.{all_map}
 use Rattle.op_base.proofs.Arranged.{none_tie, same_arranged, tie}
@@ -101,3 +103,6 @@ merge_ties {X} {R} o z ls (x ∷ xs) up m = go (R x z) refl (merge_ties o z (set
 pub merge_is : {X : Type 0} {R : X → X → Ordering} → IsTotalOrder R → (ls : List (List X)) (xs : List X) → AllByRecursion (IsArranged R) ls → Merges R ls xs → xs ≡ for_ranks R (λ same. same) (joined ls)
 merge_is {X} {R} o ls xs up m = same_arranged o xs (for_ranks R (λ same. same) (joined ls)) (merge_arranged o ls xs up m) (ranks_arranged o (joined ls))
     (λ z. merge_ties o z ls xs up m ∙ sym (filter_joined (tie R z) ls) ∙ sym (ranks_ties o z (joined ls)))
+
+pub merge_rows_is : (keys : List Key) (parts : List (List Row)) (rows : List Row) → AllByRecursion (IsArranged (row_cmp keys)) parts → Merges (row_cmp keys) parts rows → rows ≡ arranged keys (joined parts)
+merge_rows_is keys parts rows up m = merge_is (row_total keys) parts rows up m ∙ sym (by_key_ranks keys (λ same. same) (joined parts))

@@ -1,9 +1,10 @@
 -- What operators by keys do with their port lists, run by run: at once on whole lists, and row by row as they are fed.
-use Rattle.std.specs.Prelude.{ℕ, zero, suc, ◌+◌, Bool, true, false, cond, ◌&&◌, List, [], ◌∷◌, ◌++◌, length, Option, Some, None}
+use Rattle.std.specs.Prelude.{◌≡◌, ⊤, ℕ, zero, suc, ◌+◌, Bool, true, false, cond, ◌&&◌, List, [], ◌∷◌, ◌++◌, length, Option, Some, None}
 use Rattle.std.specs.Ordering.{is_lt}
 use Rattle.ds_value.specs.declared.value.Value.{Value}
 use Rattle.ds_schema.specs.Rows.{val, has, vals_cmp}
 use Rattle.op_base.specs.Columns.{Row}
+use Rattle.op_base.specs.Lists.{IsArranged}
 
 -- the first run of a list, if its value is v, and what is behind it
 abbrev pub front : List ℕ → List Value → List Row → List Row
@@ -89,6 +90,18 @@ emits ds columns rule ended inputs = emits_in (rows_in columns inputs) ds column
 
 abbrev pub left : List Bool → List (List ℕ) → List Bool → List (List Row) → List (List Row)
 left ds columns ended inputs = left_in (rows_in columns inputs) ds columns ended inputs
+
+-- each list is sorted by the keys, which lie in its own columns
+abbrev pub AreSorted : List Bool → List (List ℕ) → List (List Row) → Type 0
+AreSorted ds [] inputs = ⊤
+AreSorted ds (cs ∷ columns) [] = ⊤
+AreSorted ds (cs ∷ columns) (rows ∷ inputs) = IsArranged (λ x y. vals_cmp ds (val cs x) (val cs y)) rows × AreSorted ds columns inputs
+
+-- a port hasn't ended
+abbrev pub IsOpen : ℕ → List Bool → Type 0
+IsOpen i [] = ⊥
+IsOpen zero (e ∷ ended) = e ≡ false
+IsOpen (suc i) (e ∷ ended) = IsOpen i ended
 
 -- a row is fed to a port; a port ends
 abbrev pub fed : ℕ → Row → List (List Row) → List (List Row)

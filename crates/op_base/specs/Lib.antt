@@ -2,6 +2,7 @@ pub mod Columns
 pub mod Faults
 pub mod Feeds
 pub mod Keyed
+pub mod Laws
 pub mod Lists
 pub mod Meanings
 pub mod RowOperators

@@ -4,6 +4,7 @@
 
 mod emit;
 mod fault;
+pub mod laws;
 mod missing;
 mod operator;
 
