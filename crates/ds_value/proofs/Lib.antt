@@ -7,3 +7,4 @@ pub mod Calendars
 pub mod LastDigits
 pub mod DateTexts
 pub mod Spellings
+pub mod Pointed

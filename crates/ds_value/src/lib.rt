@@ -12,6 +12,7 @@ mod name;
 mod numeral;
 mod text;
 mod value;
+mod write;
 
 pub use bytes::Bytes;
 pub use copied::{Copied, copied_items};
@@ -21,3 +22,4 @@ pub use memory::NoMemory;
 pub use name::{Name, Name0};
 pub use text::{TextFault, read_text};
 pub use value::{Value, cmp, copy_value};
+pub use write::write_text;
