@@ -8,3 +8,4 @@ pub mod LastDigits
 pub mod DateTexts
 pub mod Spellings
 pub mod Pointed
+pub mod Orders

@@ -2,6 +2,7 @@
 #![tactic(auto)]
 
 mod bytes;
+mod canonical_form;
 mod copied;
 mod date;
 mod decimal;
@@ -15,6 +16,7 @@ mod value;
 mod write;
 
 pub use bytes::Bytes;
+pub use canonical_form::canonical;
 pub use copied::{Copied, copied_items};
 pub use items::Items;
 pub use kind::{Kind, fits};
