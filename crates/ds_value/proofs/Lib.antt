@@ -9,3 +9,4 @@ pub mod DateTexts
 pub mod Spellings
 pub mod Pointed
 pub mod Orders
+pub mod CanonicalBytes

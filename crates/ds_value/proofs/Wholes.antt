@@ -1,5 +1,5 @@
 -- What a text that spells a whole number is made of.
-use Rattle.std.proofs.Common.{◌≡◌, ◌≢◌, ◌<◌, ◌≤◌, ◌^◌, ◌-◌, ℕ, zero, suc, ℤ, pos, negsuc, neg_ℤ, unsigned_abs, Bool, true, false, cond, nat_lt, List, [], ◌∷◌, ◌++◌, length, refl, sym, ap, subst, ◌∙◌, inl, inr, Option, Some, None, MatchOption, arith, rules}
+use Rattle.std.proofs.Common.{◌≡◌, ◌≢◌, ◌<◌, ◌≤◌, ◌^◌, ◌-◌, ℕ, zero, suc, ℤ, pos, negsuc, neg_ℤ, unsigned_abs, FitsSigned, w64, Bool, true, false, cond, nat_lt, List, [], ◌∷◌, ◌++◌, length, refl, sym, ap, subst, ◌∙◌, inl, inr, Option, Some, None, MatchOption, arith, rules}
 use Rattle.std.specs.Option.{SomeIff}
 use Rattle.std.specs.Str.{all_ascii_digits}
 use Rattle.std.specs.Str.Parse.{starts_with_minus, without_leading_sign}
@@ -61,24 +61,30 @@ uint_spelled bytes m h =
       value = refl
     }
 
-at_eight : (z : ℤ) → is_between (least_int 8) (greatest_int 8) z ≡ true → unsigned_abs z < 2 ^ 64
+at_eight : (z : ℤ) → is_between (least_int 8) (greatest_int 8) z ≡ true → FitsSigned w64 z
 at_eight z h = grind (arith, ints)
 
-at_sixteen : (z : ℤ) → is_between (least_int 16) (greatest_int 16) z ≡ true → unsigned_abs z < 2 ^ 64
+at_sixteen : (z : ℤ) → is_between (least_int 16) (greatest_int 16) z ≡ true → FitsSigned w64 z
 at_sixteen z h = grind (arith, ints)
 
-at_thirty_two : (z : ℤ) → is_between (least_int 32) (greatest_int 32) z ≡ true → unsigned_abs z < 2 ^ 64
+at_thirty_two : (z : ℤ) → is_between (least_int 32) (greatest_int 32) z ≡ true → FitsSigned w64 z
 at_thirty_two z h = grind (arith, ints)
 
-at_sixty_four : (z : ℤ) → is_between (least_int 64) (greatest_int 64) z ≡ true → unsigned_abs z < 2 ^ 64
+at_sixty_four : (z : ℤ) → is_between (least_int 64) (greatest_int 64) z ≡ true → FitsSigned w64 z
 at_sixty_four z h = grind (arith, ints)
 
 -- whole kinds are narrow
+pub int_fits : (bits : ℕ) (z : ℤ) → IsBits bits → is_between (least_int bits) (greatest_int bits) z ≡ true → FitsSigned w64 z
+int_fits bits z (inl e) h = at_eight z (subst (λ n. is_between (least_int n) (greatest_int n) z ≡ true) e h)
+int_fits bits z (inr (inl e)) h = at_sixteen z (subst (λ n. is_between (least_int n) (greatest_int n) z ≡ true) e h)
+int_fits bits z (inr (inr (inl e))) h = at_thirty_two z (subst (λ n. is_between (least_int n) (greatest_int n) z ≡ true) e h)
+int_fits bits z (inr (inr (inr e))) h = at_sixty_four z (subst (λ n. is_between (least_int n) (greatest_int n) z ≡ true) e h)
+
+small_int : (z : ℤ) → FitsSigned w64 z → unsigned_abs z < 2 ^ 64
+small_int z h = omega (arith, ints)
+
 pub int_within : (bits : ℕ) (z : ℤ) → IsBits bits → is_between (least_int bits) (greatest_int bits) z ≡ true → unsigned_abs z < 2 ^ 64
-int_within bits z (inl e) h = at_eight z (subst (λ n. is_between (least_int n) (greatest_int n) z ≡ true) e h)
-int_within bits z (inr (inl e)) h = at_sixteen z (subst (λ n. is_between (least_int n) (greatest_int n) z ≡ true) e h)
-int_within bits z (inr (inr (inl e))) h = at_thirty_two z (subst (λ n. is_between (least_int n) (greatest_int n) z ≡ true) e h)
-int_within bits z (inr (inr (inr e))) h = at_sixty_four z (subst (λ n. is_between (least_int n) (greatest_int n) z ≡ true) e h)
+int_within bits z b h = small_int z (int_fits bits z b h)
 
 pub uint_within : (bits n : ℕ) → IsBits bits → nat_lt n (2 ^ bits) ≡ true → n < 2 ^ 64
 uint_within bits n (inl e) h = let k = subst (λ m. nat_lt n (2 ^ m) ≡ true) e h in grind arith

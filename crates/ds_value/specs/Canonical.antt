@@ -1,5 +1,5 @@
 -- Canonical bytes: a byte that names the variant, then the content, numbers in two's complement and big-endian.
-use Rattle.std.specs.Prelude.{ℕ, ◌<◌, ◌^◌, List, [], ◌∷◌, ◌++◌, length}
+use Rattle.std.specs.Prelude.{◌≡◌, ℕ, FitsSigned, ◌<◌, ◌^◌, List, [], ◌∷◌, ◌++◌, length}
 use Rattle.std.specs.Int.{w32, w64, w128, to_be_bytes, cast_unsigned}
 use Rattle.ds_value.specs.declared.value.Value.{Value}
 use Rattle.ds_value.specs.declared.value.Value.TheVariants.{Null, Int, UInt, Dec, Text, Date}
@@ -20,3 +20,12 @@ IsShort (UInt n) = Unit {0}
 IsShort (Dec z) = Unit {0}
 IsShort (Text b) = length b < 2 ^ 32
 IsShort (Date z) = Unit {0}
+
+-- the numbers lie in the ranges that the variants hold
+abbrev pub IsHeld : Value → Type 0
+IsHeld Null = Unit {0}
+IsHeld (Int z) = FitsSigned w64 z
+IsHeld (UInt n) = n < 2 ^ 64
+IsHeld (Dec z) = FitsSigned w128 z
+IsHeld (Text b) = Unit {0}
+IsHeld (Date z) = FitsSigned w32 z

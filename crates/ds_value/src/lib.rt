@@ -8,6 +8,7 @@ mod date;
 mod decimal;
 mod items;
 mod kind;
+mod laws;
 mod memory;
 mod name;
 mod numeral;
@@ -20,6 +21,9 @@ pub use canonical_form::canonical;
 pub use copied::{Copied, copied_items};
 pub use items::Items;
 pub use kind::{Kind, fits};
+pub use laws::{
+    canonical_bytes_differ, days_and_dates_agree, spellings_are_exact, value_order_is_total,
+};
 pub use memory::NoMemory;
 pub use name::{Name, Name0};
 pub use text::{TextFault, read_text};
