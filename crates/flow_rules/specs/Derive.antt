@@ -263,10 +263,10 @@ abbrev pub set_if : Option (List ℕ) → Option (List ℕ)
 set_if None = None
 set_if (Some G) = Some (set_of G)
 
-abbrev pub as_set : State → State
-as_set s = record { agree = set_if s.agree; place = s.place; sort = s.sort }
+-- refining: all columns for none where there is a place, then, where that is asked for, regain; the agree set is a set
+abbrev pub refined_agree : Bool → ℕ → State → Option (List ℕ)
+refined_agree true width s = (regain (filled width s)).agree
+refined_agree false width s = (filled width s).agree
 
--- refining: all columns for none where there is a place, then, where that is asked for, regain; what is left is a set
 abbrev pub refined : Bool → ℕ → State → State
-refined true width s = as_set (regain (filled width s))
-refined false width s = as_set (filled width s)
+refined regains width s = record { agree = set_if (refined_agree regains width s); place = s.place; sort = s.sort }
