@@ -6,20 +6,14 @@ use Rattle.std.specs.List.{AllByRecursion, range_with_len}
 use Rattle.ds_schema.specs.Rows.{at, val}
 use Rattle.ds_value.specs.declared.value.Value.{Value}
 use Rattle.flow_graph.specs.Operators.{faults}
-use Rattle.flow_graph.specs.Shapes.{Carries, RowShape, Wide}
-use Rattle.op_base.specs.Columns.{Row, all_columns, as_it_is, is_in, pairs_of}
+use Rattle.flow_graph.specs.Shapes.{Carries, Passes, PassesInto, RowShape, Wide}
+use Rattle.op_base.specs.Columns.{Row, everything, all_columns, is_in, pairs_of}
 use Rattle.op_base.specs.RowOperators.{Case, Computed, Judged, case, case_fails, case_faults, case_rows, cell, compute_fails, computed, copy_rule, failed_rows, fails, filter_rows, filter_rule, if_no, if_yes, judged_faults, modify_rule, no, not_set, other, set_rows, sink_rule, switch_rule, transform_passes, transform_rows, transform_rule, yes}
 use Rattle.op_base.specs.declared.fault.Fault.{Fault}
-use Rattle.flow_graph.proofs.PassingColumns.{carries_same, pairs_fit, range_fit}
+use Rattle.flow_graph.proofs.PassingColumns.{pairs_fit, range_fit}
 use Rattle.op_base.proofs.All.{all_filter}
 use Rattle.op_base.proofs.ColumnLaws.{length-range_with}
 use Rattle.op_base.proofs.Orders.{length-val}
-
-itself : (w : ℕ) (r : Row) → Carries (as_it_is w) r r
-itself w r = carries_same (all_columns w) (all_columns w) r r refl
-
-identity_inside : (w : ℕ) → AllByRecursion (λ (e : ℕ × ℕ). e.1 < w) (as_it_is w)
-identity_inside w = pairs_fit w (all_columns w) (all_columns w) (range_fit w 0 w (omega arith))
 
 -- a row at most, and as it is
 abbrev Same : Row → List Row → Type 0
@@ -39,23 +33,19 @@ same_wide : (w : ℕ) (r : Row) (ys : List Row) → Wide w r → AllByRecursion 
 same_wide w r [] l h = tt
 same_wide w r (y ∷ ys) l h = (ap length h.0 ∙ l, same_wide w r ys l h.1)
 
-same_carries : (w : ℕ) (r : Row) (ys : List Row) → AllByRecursion (λ y. y ≡ r) ys → AllByRecursion (Carries (as_it_is w) r) ys
-same_carries w r [] h = tt
-same_carries w r (y ∷ ys) h = (subst (Carries (as_it_is w) r) (sym h.0) (itself w r), same_carries w r ys h.1)
-
 -- a rule that hands rows on as they are
-hands_on : (w : ℕ) (rows : ℕ → Row → List Row) (faults : Row → List Fault) → ((q : ℕ) (r : Row) → Same r (rows q r)) → RowShape (record { rows = rows; faults = faults; passes = λ q. as_it_is w }) w (λ q. w)
+hands_on : (w : ℕ) (rows : ℕ → Row → List Row) (faults : Row → List Fault) → ((q : ℕ) (r : Row) → Same r (rows q r)) → RowShape (record { rows = rows; faults = faults; passes = λ q. everything }) w (λ q. w)
 hands_on w rows faults h = record {
   wide = λ q r l. same_wide w r (rows q r) l (h q r).0;
-  passes = λ q r l. same_carries w r (rows q r) (h q r).0;
+  passes = λ q r l. (h q r).0;
   one = λ q r. (h q r).1;
-  inside = λ q. identity_inside w;
+  inside = λ q. refl;
 }
 
-pub copy_shape : (w : ℕ) → RowShape (copy_rule w) w (λ q. w)
+pub copy_shape : (w : ℕ) → RowShape copy_rule w (λ q. w)
 copy_shape w = hands_on w (λ q r. r ∷ []) (λ r. []) (λ q r. same_one r)
 
-pub filter_shape : (w : ℕ) (test : Row → Judged) (rejects : Bool) → RowShape (filter_rule w test rejects) w (λ q. w)
+pub filter_shape : (w : ℕ) (test : Row → Judged) (rejects : Bool) → RowShape (filter_rule test rejects) w (λ q. w)
 filter_shape w test rejects = hands_on w (filter_rows test rejects) (λ r. judged_faults (test r)) rows
   where
     kept : (j : Judged) (r : Row) → Same r (if_yes j r)
@@ -72,7 +62,7 @@ filter_shape w test rejects = hands_on w (filter_rows test rejects) (λ r. judge
     rows zero r = kept (test r) r
     rows (suc q) r = same_if rejects r (if_no (test r) r) (left (test r) r)
 
-pub switch_shape : (w cases : ℕ) (on : Row → Case) (rejects : Bool) → RowShape (switch_rule w cases on rejects) w (λ q. w)
+pub switch_shape : (w cases : ℕ) (on : Row → Case) (rejects : Bool) → RowShape (switch_rule cases on rejects) w (λ q. w)
 switch_shape w cases on rejects = hands_on w (λ q r. case_rows cases rejects (on r) q r) (λ r. case_faults (on r)) (λ q r. rows (on r) q r)
   where
     rows : (c : Case) (q : ℕ) (r : Row) → Same r (case_rows cases rejects c q r)
@@ -140,17 +130,17 @@ transform_shape w columns targets compute rejects wide = record { wide = widths;
         go true e h = h
         go false e h = (at_cell (cell targets values r) 0 columns n (omega arith) ∙ ap (cell targets values r) (omega arith) ∙ not_target targets values r n e, h)
 
-    carries : (q : ℕ) (r : Row) → Wide w r → AllByRecursion (Carries (transform_passes w targets q) r) (transform_rows columns targets compute rejects q r)
+    carries : (q : ℕ) (r : Row) → Wide w r → AllByRecursion (Passes (transform_passes w targets q) r) (transform_rows columns targets compute rejects q r)
     carries zero r l = go (compute r)
       where
-        go : (c : Computed) → AllByRecursion (Carries (transform_passes w targets zero) r) (set_rows columns targets c r)
+        go : (c : Computed) → AllByRecursion (Passes (transform_passes w targets zero) r) (set_rows columns targets c r)
         go (computed values) = (pass values r 0 w (omega arith), tt)
         go (compute_fails f) = tt
     carries (suc q) r l = go rejects (compute r)
       where
-        go : (b : Bool) (c : Computed) → AllByRecursion (Carries (as_it_is w) r) (cond b (failed_rows c r) [])
+        go : (b : Bool) (c : Computed) → AllByRecursion (λ y. y ≡ r) (cond b (failed_rows c r) [])
         go true (computed values) = tt
-        go true (compute_fails f) = (itself w r, tt)
+        go true (compute_fails f) = (refl, tt)
         go false c = tt
 
     ones : (q : ℕ) (r : Row) → length (transform_rows columns targets compute rejects q r) ≤ 1
@@ -166,9 +156,9 @@ transform_shape w columns targets compute rejects wide = record { wide = widths;
         go true (compute_fails f) = omega arith
         go false c = omega arith
 
-    insides : (q : ℕ) → AllByRecursion (λ (e : ℕ × ℕ). e.1 < cond (q == 0) columns w) (transform_passes w targets q)
+    insides : (q : ℕ) → PassesInto (transform_passes w targets q) w (cond (q == 0) columns w)
     insides zero = pairs_fit columns (not_set targets (all_columns w)) (not_set targets (all_columns w)) (all_filter (λ (c : ℕ). c < columns) (λ c. cond (is_in c targets) false true) (all_columns w) (range_fit columns 0 w (omega arith)))
-    insides (suc q) = subst (λ n. AllByRecursion (λ (e : ℕ × ℕ). e.1 < n) (as_it_is w)) (sym (ap (λ b. cond b columns w) (after q))) (identity_inside w)
+    insides (suc q) = ap (λ b. cond b columns w) (after q)
       where
         after : (n : ℕ) → (suc n == 0) ≡ false
         after n = grind (arith, nat_tests)

@@ -27,13 +27,13 @@ abbrev pub FaultsUnsorted : Type 0
 FaultsUnsorted = (op : Op) (inputs others : List (List Row)) → SortedAsNeeded op 0 inputs others → faults op others ≡ faults op inputs
 
 abbrev pub CopyShape : Type 0
-CopyShape = (w : ℕ) → RowShape (copy_rule w) w (λ q. w)
+CopyShape = (w : ℕ) → RowShape copy_rule w (λ q. w)
 
 abbrev pub FilterShape : Type 0
-FilterShape = (w : ℕ) (test : Row → Judged) (rejects : Bool) → RowShape (filter_rule w test rejects) w (λ q. w)
+FilterShape = (w : ℕ) (test : Row → Judged) (rejects : Bool) → RowShape (filter_rule test rejects) w (λ q. w)
 
 abbrev pub SwitchShape : Type 0
-SwitchShape = (w cases : ℕ) (on : Row → Case) (rejects : Bool) → RowShape (switch_rule w cases on rejects) w (λ q. w)
+SwitchShape = (w cases : ℕ) (on : Row → Case) (rejects : Bool) → RowShape (switch_rule cases on rejects) w (λ q. w)
 
 abbrev pub ModifyShape : Type 0
 ModifyShape = (w : ℕ) (kept : List ℕ) → RowShape (modify_rule kept) w (λ q. length kept)

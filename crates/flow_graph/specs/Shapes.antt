@@ -5,7 +5,7 @@ use Rattle.std.specs.List.Sorted.{IsPermutation}
 use Rattle.ds_value.specs.declared.value.Value.{Value}
 use Rattle.ds_schema.specs.declared.key.Key.{Key}
 use Rattle.ds_schema.specs.Rows.{at, cols, ways, KeysDiffer}
-use Rattle.op_base.specs.Columns.{Row, Pairs, IsIn, Lies, all_columns}
+use Rattle.op_base.specs.Columns.{Row, Pairs, Passing, everything, only, IsIn, Lies, all_columns}
 use Rattle.op_base.specs.Keyed.{get_keys}
 use Rattle.op_base.specs.Meanings.{Segment, Grouping, Merging, line_rows}
 use Rattle.op_base.specs.RowOperators.{RowRule}
@@ -34,12 +34,21 @@ SpotFits width spot.None = ⊤
 abbrev pub Carries : Pairs → Row → Row → Type 0
 Carries m r y = AllByRecursion (λ (e : ℕ × ℕ). at y (e.1) ≡ at r (e.0)) m
 
--- by rows: rows of the input's width give rows of the outputs' widths, at most one on each output, with the columns that pass
+-- a row of an output, against the input's row: what passes is there
+abbrev pub Passes : Passing → Row → Row → Type 0
+Passes everything r y = y ≡ r
+Passes (only m) r y = Carries m r y
+
+abbrev pub PassesInto : Passing → ℕ → ℕ → Type 0
+PassesInto everything width out = out ≡ width
+PassesInto (only m) width out = AllByRecursion (λ (e : ℕ × ℕ). e.1 < out) m
+
+-- by rows: rows of the input's width give rows of the outputs' widths, at most one on each output, with what passes
 pub record RowShape (rule : RowRule) (width : ℕ) (outs : ℕ → ℕ) : Type 0 where
   pub wide : (q : ℕ) (r : Row) → Wide width r → AllByRecursion (Wide (outs q)) (rule.rows q r)
-  pub passes : (q : ℕ) (r : Row) → Wide width r → AllByRecursion (Carries (rule.passes q) r) (rule.rows q r)
+  pub passes : (q : ℕ) (r : Row) → Wide width r → AllByRecursion (Passes (rule.passes q) r) (rule.rows q r)
   pub one : (q : ℕ) (r : Row) → length (rule.rows q r) ≤ 1
-  pub inside : (q : ℕ) → AllByRecursion (λ (e : ℕ × ℕ). e.1 < outs q) (rule.passes q)
+  pub inside : (q : ℕ) → PassesInto (rule.passes q) width (outs q)
 
 -- group: without a first or last result its results are the same whatever the order of the rows
 pub record GroupShape (g : Grouping) (outs : ℕ → ℕ) : Type 0 where

@@ -5,7 +5,7 @@ use Rattle.std.proofs.lemmas.List.Sorted.{IsPermutation-append, IsPermutation-re
 use Rattle.std.specs.List.{AllByRecursion, range_with_len}
 use Rattle.ds_schema.specs.Rows.{cols}
 use Rattle.ds_schema.specs.declared.key.Key.{Key}
-use Rattle.flow_graph.specs.Forms.{form, looked_pairs}
+use Rattle.flow_graph.specs.Forms.{form, looked_passing}
 use Rattle.flow_graph.specs.Operators.{Op, by_row, changecapture, dsread, faults, funnel, funnel_sequence, funnel_sort, group, import, join, lookup, merge, remdup, result, tsort}
 use Rattle.flow_graph.specs.Runs.{Delivers, FitsShape, Forward, Gives, InsertedFrom, Lists, Means, Node, Out, RouteFits, Runs, arranged_if, links, meant_faults, result_on, run_faults, slice}
 use Rattle.flow_graph.specs.Shapes.{AllWide, FitsPorts, HasPort, SpotFits, Wide}
@@ -14,10 +14,10 @@ use Rattle.flow_graph.specs.declared.place.Place.{Place}
 use Rattle.flow_graph.specs.declared.place.Place.TheVariants.{Hash, Modulus}
 use Rattle.flow_graph.specs.declared.state.Spot.{Spot}
 use Rattle.flow_graph.specs.declared.state.State.{State}
-use Rattle.flow_rules.specs.Derive.{all_at_place, carried_place, common_place, declared_state, first_keys, first_state, key_places, places, read_state, refined, routed_state, same_place, solo_state, sorted_state}
+use Rattle.flow_rules.specs.Derive.{kept_place, passed_state, all_at_place, carried_place, common_place, declared_state, first_keys, first_state, key_places, places, read_state, refined, routed_state, same_place, solo_state, sorted_state}
 use Rattle.flow_rules.specs.Needs.{missed, route_missed}
 use Rattle.flow_rules.specs.Soundness.{Accepted, Derives, Keeps, Sound}
-use Rattle.op_base.specs.Columns.{IsIn, Lies, Row, pairs_of}
+use Rattle.op_base.specs.Columns.{Passing, everything, only, IsIn, Lies, Row, pairs_of}
 use Rattle.op_base.specs.Keyed.{arranged, get_keys, seen, without}
 use Rattle.op_base.specs.Lists.{joined}
 use Rattle.flow_graph.proofs.InsertedSorts.{as_needed, faults_same, result_same}
@@ -27,7 +27,7 @@ use Rattle.flow_rules.proofs.Acceptance.{needs_met, route_met}
 use Rattle.flow_rules.proofs.FeedOps.{faults_meant, gives_meant}
 use Rattle.flow_rules.proofs.FunnelOps.{common_known}
 use Rattle.flow_rules.proofs.MeetLaws.{Lengths, carried_plain, length-range}
-use Rattle.flow_rules.proofs.NeedTypes.{Needs, derived_op}
+use Rattle.flow_rules.proofs.NeedTypes.{NotEntire, Needs, derived_op}
 use Rattle.flow_rules.proofs.OpHolds.{meant_faults_on, op_faults, op_holds}
 use Rattle.flow_rules.proofs.Passing.{IsKnown}
 use Rattle.flow_rules.proofs.PlaceFits.{AllFit, derived_fits, route_fits, sort_fits}
@@ -90,10 +90,22 @@ keyed_plain (K ∷ keys) H (s ∷ states) e = go (same_place (carried_place (pai
     go true f = carried_plain (pairs_of (cols K) (cols H)) s.place f
     go false f = cc
 
+passed_plain : (m : Passing) (s : State) → NotEntire s → (passed_state m s).place ≢ spot.Entire
+passed_plain everything s n e = n e
+passed_plain (only m) s n e = go s.place n e
+  where
+    go : (p : Spot) → p ≢ spot.Entire → kept_place m p ≡ spot.Entire → ⊥
+    go spot.Solo k f = cc
+    go (spot.Placed place) k f = carried_plain m (spot.Placed place) f
+    go spot.Entire k f = k refl
+    go spot.None k f = cc
+
 pub derived_plain : (op : Op) (q : ℕ) (states : List State) → Needs op states → (derived_op op q states).place ≢ spot.Entire
 derived_plain (import lines rejects beyond) q states n e = cc
 derived_plain (dsread segments place) q states n e = read_plain (length segments) place e
-derived_plain (by_row rule) q states n e = carried_plain (rule.passes q) (first_state states).place e
+derived_plain (by_row rule) q [] n e = n
+derived_plain (by_row rule) q (s ∷ []) n e = passed_plain (rule.passes q) s n e
+derived_plain (by_row rule) q (s ∷ (t ∷ states)) n e = n
 derived_plain (tsort keys) q [] n e = n
 derived_plain (tsort keys) q (s ∷ []) n e = n e
 derived_plain (tsort keys) q (s ∷ (t ∷ states)) n e = n
@@ -103,7 +115,10 @@ derived_plain (remdup last keys) q (s ∷ (t ∷ states)) n e = n
 derived_plain (group g) q states n e = carried_plain (pairs_of (cols g.keys) (cols (first_keys 0 g.keys))) (first_state states).place e
 derived_plain (join j) q states n e = keyed_plain (j.left_keys ∷ (j.right_keys ∷ [])) (first_keys 0 j.left_keys) states e
 derived_plain (merge m) q states n e = keyed_plain m.keys (get_keys m.keys q) states e
-derived_plain (lookup k) q states n e = carried_plain (looked_pairs k q) (first_state states).place e
+derived_plain (lookup k) q [] n e = n
+derived_plain (lookup k) q (s ∷ []) n e = n
+derived_plain (lookup k) q (s ∷ (t ∷ [])) n e = passed_plain (looked_passing k q) s n.0 e
+derived_plain (lookup k) q (s ∷ (t ∷ (u ∷ states))) n e = n
 derived_plain (changecapture c) q states n e = keyed_plain (c.keys ∷ (c.keys ∷ [])) c.keys states e
 derived_plain funnel q states n e = common_plain states e
 derived_plain funnel_sequence q states n e = common_plain states e
@@ -165,14 +180,14 @@ lengths_of got degree [] h = tt
 lengths_of got degree (l ∷ ins) h = (h.0, lengths_of got degree ins h.1)
 
 -- what is known of one node
-abbrev NodeSound : (ℕ → ℕ) → (ℕ → Option (List Key)) → (ℕ → State) → (ℕ → List Row) → Lists → Node → Type 0
-NodeSound width sorts state whole run n = FitsShape width n × InsertedFrom sorts n.op 0 n.ins × Derives width sorts state n × Accepted width state n × Means whole n × Runs sorts run n
+abbrev NodeSound : Bool → (ℕ → ℕ) → (ℕ → Option (List Key)) → (ℕ → State) → (ℕ → List Row) → Lists → Node → Type 0
+NodeSound regains width sorts state whole run n = FitsShape width n × InsertedFrom sorts n.op 0 n.ins × Derives regains width sorts state n × Accepted regains width state n × Means whole n × Runs sorts run n
 
 abbrev Fails : (ℕ → List Row) → Lists → Node → Type 0
 Fails whole run n = IsPermutation (joined (run.failed n.number)) (faults n.op (map whole n.ins))
 
-node_step : (width : ℕ → ℕ) (sorts : ℕ → Option (List Key)) (state : ℕ → State) (whole : ℕ → List Row) (run : Lists) (n : Node) → NodeSound width sorts state whole run n → AllByRecursion (Keeps width sorts state whole run) n.ins → AllByRecursion (λ (o : Out). Keeps width sorts state whole run o.link) n.outs × Fails whole run n
-node_step width sorts state whole run n (shape, inserted, derives, accepted, means, runs) h = (go n.outs shape.4 derives accepted.1 means runs.gives runs.comes, fails)
+node_step : (regains : Bool) (width : ℕ → ℕ) (sorts : ℕ → Option (List Key)) (state : ℕ → State) (whole : ℕ → List Row) (run : Lists) (n : Node) → NodeSound regains width sorts state whole run n → AllByRecursion (Keeps width sorts state whole run) n.ins → AllByRecursion (λ (o : Out). Keeps width sorts state whole run o.link) n.outs × Fails whole run n
+node_step regains width sorts state whole run n (shape, inserted, derives, accepted, means, runs) h = (go n.outs shape.4 derives accepted.1 means runs.gives runs.comes, fails)
   where
     states : List State
     states = map state n.ins
@@ -201,8 +216,8 @@ node_step width sorts state whole run n (shape, inserted, derives, accepted, mea
         (op_faults n.op (map width n.ins) shape.0 states runs.degree inputs stars shape.1 met runs.fits runs.some held long))
 
     go : (outs : List Out) → AllByRecursion (λ (o : Out). (width o.link ≡ shape.0 o.port) × HasPort n.op o.port × RouteFits (width o.link) o.route) outs →
-        AllByRecursion (λ (o : Out). state o.link ≡ refined (width o.link) (sorted_state (sorts o.link) (routed_state o.sequential o.route (refined (width o.link) (derived_op n.op o.port states))))) outs →
-        AllByRecursion (λ (o : Out). route_missed o.route (refined (width o.link) (derived_op n.op o.port states)) ≡ []) outs →
+        AllByRecursion (λ (o : Out). state o.link ≡ refined regains (width o.link) (sorted_state (sorts o.link) (routed_state o.sequential o.route (refined regains (width o.link) (derived_op n.op o.port states))))) outs →
+        AllByRecursion (λ (o : Out). route_missed o.route (refined regains (width o.link) (derived_op n.op o.port states)) ≡ []) outs →
         AllByRecursion (λ (o : Out). whole o.link ≡ result n.op o.port (map whole n.ins)) outs →
         AllByRecursion (λ (o : Out). Gives n.op o.port inputs runs.degree (run.sent o.link)) outs →
         AllByRecursion (λ (o : Out). Delivers o (sorts o.link) (run.sent o.link) (run.got o.link)) outs →
@@ -219,8 +234,8 @@ node_step width sorts state whole run n (shape, inserted, derives, accepted, mea
         fits : SpotFits (width o.link) before.place
         fits = subst (λ w. SpotFits w before.place) (sym s.0.0) (derived_fits n.op (map width n.ins) shape.0 o.port states shape.1 met (inputs_fit width sorts state whole run n.ins h))
 
-        sorted_fits : SpotFits (width o.link) (sorted_state (sorts o.link) (routed_state o.sequential o.route (refined (width o.link) before))).place
-        sorted_fits = sort_fits (sorts o.link) (width o.link) (routed_state o.sequential o.route (refined (width o.link) before)) (route_fits o.sequential o.route (width o.link) (refined (width o.link) before) s.0.2 fits)
+        sorted_fits : SpotFits (width o.link) (sorted_state (sorts o.link) (routed_state o.sequential o.route (refined regains (width o.link) before))).place
+        sorted_fits = sort_fits (sorts o.link) (width o.link) (routed_state o.sequential o.route (refined regains (width o.link) before)) (route_fits o.sequential o.route (width o.link) (refined regains (width o.link) before) s.0.2 fits)
 
         put : Holds before (run.sent o.link) (whole o.link)
         put = subst (Holds before (run.sent o.link)) (result_same n.op o.port (map whole n.ins) stars (as_needed sorts whole n.op 0 n.ins inserted) ∙ sym m.0)
@@ -232,40 +247,40 @@ node_step width sorts state whole run n (shape, inserted, derives, accepted, mea
         some_sent : 0 < length (run.sent o.link)
         some_sent = subst (λ k. 0 < k) (sym (gives_long n.op o.port inputs runs.degree (run.sent o.link) g.0)) runs.some
 
-        leaves : Holds (refined (width o.link) before) (run.sent o.link) (whole o.link)
-        leaves = refined_holds (width o.link) before (run.sent o.link) (whole o.link) some_sent wide fits put
+        leaves : Holds (refined regains (width o.link) before) (run.sent o.link) (whole o.link)
+        leaves = refined_holds regains (width o.link) before (run.sent o.link) (whole o.link) some_sent wide fits put
 
         v : Delivers o (sorts o.link) (run.sent o.link) (run.got o.link)
         v = c.0
 
-        after : Holds (routed_state o.sequential o.route (refined (width o.link) before)) v.mid (whole o.link)
-        after = route_holds o.sequential o.route (refined (width o.link) before) (run.sent o.link) v.mid (whole o.link) (route_met o.route (refined (width o.link) before) a.0) (derived_plain n.op o.port states met) v.some leaves v.arrives
+        after : Holds (routed_state o.sequential o.route (refined regains (width o.link) before)) v.mid (whole o.link)
+        after = route_holds o.sequential o.route (refined regains (width o.link) before) (run.sent o.link) v.mid (whole o.link) (route_met o.route (refined regains (width o.link) before) a.0) (derived_plain n.op o.port states met) v.some leaves v.arrives
 
         long_mid : 0 < length (map (arranged_if (sorts o.link)) v.mid)
         long_mid = subst (λ k. 0 < k) (sym (length-map v.mid (arranged_if (sorts o.link)))) v.some
 
         arrives : Holds (state o.link) (run.got o.link) (arranged_if (sorts o.link) (whole o.link))
         arrives = subst (λ t. Holds t (run.got o.link) (arranged_if (sorts o.link) (whole o.link))) (sym d.0)
-            (subst (λ ps. Holds (refined (width o.link) (sorted_state (sorts o.link) (routed_state o.sequential o.route (refined (width o.link) before)))) ps (arranged_if (sorts o.link) (whole o.link))) (sym v.sorted)
-            (refined_holds (width o.link) (sorted_state (sorts o.link) (routed_state o.sequential o.route (refined (width o.link) before))) (map (arranged_if (sorts o.link)) v.mid) (arranged_if (sorts o.link) (whole o.link)) long_mid
+            (subst (λ ps. Holds (refined regains (width o.link) (sorted_state (sorts o.link) (routed_state o.sequential o.route (refined regains (width o.link) before)))) ps (arranged_if (sorts o.link) (whole o.link))) (sym v.sorted)
+            (refined_holds regains (width o.link) (sorted_state (sorts o.link) (routed_state o.sequential o.route (refined regains (width o.link) before))) (map (arranged_if (sorts o.link)) v.mid) (arranged_if (sorts o.link) (whole o.link)) long_mid
             (arranged_wide (width o.link) (sorts o.link) (whole o.link) wide) sorted_fits
-            (any_sorted_holds (sorts o.link) (routed_state o.sequential o.route (refined (width o.link) before)) v.mid (whole o.link) after)))
+            (any_sorted_holds (sorts o.link) (routed_state o.sequential o.route (refined regains (width o.link) before)) v.mid (whole o.link) after)))
 
-all_six : (width : ℕ → ℕ) (sorts : ℕ → Option (List Key)) (state : ℕ → State) (whole : ℕ → List Row) (run : Lists) (nodes : List Node) → AllByRecursion (FitsShape width) nodes → AllByRecursion (λ (n : Node). InsertedFrom sorts n.op 0 n.ins) nodes → AllByRecursion (Derives width sorts state) nodes → AllByRecursion (Accepted width state) nodes → AllByRecursion (Means whole) nodes → AllByRecursion (Runs sorts run) nodes →
-    AllByRecursion (NodeSound width sorts state whole run) nodes
-all_six width sorts state whole run [] s i d a m r = tt
-all_six width sorts state whole run (n ∷ nodes) s i d a m r = ((s.0, i.0, d.0, a.0, m.0, r.0), all_six width sorts state whole run nodes s.1 i.1 d.1 a.1 m.1 r.1)
+all_six : (regains : Bool) (width : ℕ → ℕ) (sorts : ℕ → Option (List Key)) (state : ℕ → State) (whole : ℕ → List Row) (run : Lists) (nodes : List Node) → AllByRecursion (FitsShape width) nodes → AllByRecursion (λ (n : Node). InsertedFrom sorts n.op 0 n.ins) nodes → AllByRecursion (Derives regains width sorts state) nodes → AllByRecursion (Accepted regains width state) nodes → AllByRecursion (Means whole) nodes → AllByRecursion (Runs sorts run) nodes →
+    AllByRecursion (NodeSound regains width sorts state whole run) nodes
+all_six regains width sorts state whole run [] s i d a m r = tt
+all_six regains width sorts state whole run (n ∷ nodes) s i d a m r = ((s.0, i.0, d.0, a.0, m.0, r.0), all_six regains width sorts state whole run nodes s.1 i.1 d.1 a.1 m.1 r.1)
 
 -- In a legal run of an accepted flow each link keeps what its state says, and each node fails as it does on the whole.
-pub flow_all : (nodes : List Node) (width : ℕ → ℕ) (sorts : ℕ → Option (List Key)) (state : ℕ → State) (whole : ℕ → List Row) (run : Lists) → Sound nodes width sorts state whole run →
+pub flow_all : (regains : Bool) (nodes : List Node) (width : ℕ → ℕ) (sorts : ℕ → Option (List Key)) (state : ℕ → State) (whole : ℕ → List Row) (run : Lists) → Sound regains nodes width sorts state whole run →
     AllByRecursion (λ (n : Node). AllByRecursion (λ (o : Out). Keeps width sorts state whole run o.link) n.outs × IsPermutation (joined (run.failed n.number)) (faults n.op (map whole n.ins))) nodes
-flow_all nodes width sorts state whole run s =
-    along_all (Keeps width sorts state whole run) (NodeSound width sorts state whole run) (Fails whole run) (node_step width sorts state whole run) nodes [] (λ l i. absurd i) s.forward
-    (all_six width sorts state whole run nodes s.shaped s.inserted s.derives s.accepted s.means s.runs)
+flow_all regains nodes width sorts state whole run s =
+    along_all (Keeps width sorts state whole run) (NodeSound regains width sorts state whole run) (Fails whole run) (node_step regains width sorts state whole run) nodes [] (λ l i. absurd i) s.forward
+    (all_six regains width sorts state whole run nodes s.shaped s.inserted s.derives s.accepted s.means s.runs)
 
 -- The faults of the run are those of the meaning.
-pub faults_all : (nodes : List Node) (width : ℕ → ℕ) (sorts : ℕ → Option (List Key)) (state : ℕ → State) (whole : ℕ → List Row) (run : Lists) → Sound nodes width sorts state whole run → IsPermutation (run_faults run nodes) (meant_faults whole nodes)
-faults_all nodes width sorts state whole run s = go nodes (flow_all nodes width sorts state whole run s)
+pub faults_all : (regains : Bool) (nodes : List Node) (width : ℕ → ℕ) (sorts : ℕ → Option (List Key)) (state : ℕ → State) (whole : ℕ → List Row) (run : Lists) → Sound regains nodes width sorts state whole run → IsPermutation (run_faults run nodes) (meant_faults whole nodes)
+faults_all regains nodes width sorts state whole run s = go nodes (flow_all regains nodes width sorts state whole run s)
   where
     go : (ns : List Node) → AllByRecursion (λ (n : Node). AllByRecursion (λ (o : Out). Keeps width sorts state whole run o.link) n.outs × IsPermutation (joined (run.failed n.number)) (faults n.op (map whole n.ins))) ns → IsPermutation (run_faults run ns) (meant_faults whole ns)
     go [] h = IsPermutation-refl []

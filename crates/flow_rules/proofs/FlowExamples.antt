@@ -10,7 +10,7 @@ use Rattle.flow_graph.specs.Shapes.{Wide}
 use Rattle.flow_graph.specs.declared.place.Place.TheVariants.{Hash}
 use Rattle.flow_graph.specs.declared.state.State.{State}
 use Rattle.flow_rules.specs.Soundness.{Sound}
-use Rattle.op_base.specs.Columns.{Row}
+use Rattle.op_base.specs.Columns.{only, Row}
 use Rattle.op_base.specs.Meanings.{Grouping, Join, Line, good, line_rows}
 use Rattle.op_base.specs.RowOperators.{RowRule}
 use Rattle.op_base.specs.declared.fault.Fault.{Fault}
@@ -28,7 +28,7 @@ left : Join
 left = record { left_keys = up; right_keys = up; left_others = 1 ∷ []; right_others = 1 ∷ []; keeps_left = true; keeps_right = false }
 
 sink : RowRule
-sink = record { rows = λ q r. []; faults = λ r. []; passes = λ q. [] }
+sink = record { rows = λ q r. []; faults = λ r. []; passes = λ q. only [] }
 
 as1 : List Row
 as1 = row 2 10 ∷ (row 1 11 ∷ (row 2 12 ∷ []))
@@ -79,7 +79,7 @@ lines_of : List Row → List Line
 lines_of [] = []
 lines_of (r ∷ rows) = good r ∷ lines_of rows
 
-join_flow : Sound
+join_flow : Sound true
     (record { number = 0; op = import (good (row 2 10) ∷ (good (row 1 11) ∷ (good (row 2 12) ∷ []))) false []; ins = []; outs = record { port = 0; link = 0; route = route.Same; sequential = true } ∷ [] }
     ∷ (record { number = 1; op = import (good (row 2 20) ∷ (good (row 3 21) ∷ [])) false []; ins = []; outs = record { port = 0; link = 1; route = route.Same; sequential = true } ∷ [] }
     ∷ (record { number = 2; op = join left; ins = 0 ∷ (1 ∷ []); outs = record { port = 0; link = 2; route = route.Same; sequential = true } ∷ [] }
@@ -147,7 +147,7 @@ abbrev group_states : ℕ → State
 group_states zero = record { agree = Some (0 ∷ []); place = spot.Placed (Hash (0 ∷ [])); sort = up }
 group_states (suc l) = record { agree = Some []; place = spot.Solo; sort = up }
 
-group_flow : Sound
+group_flow : Sound true
     (record { number = 0; op = import [] false []; ins = []; outs = record { port = 0; link = 0; route = route.Hash (0 ∷ []); sequential = false } ∷ [] }
     ∷ (record { number = 1; op = group counts; ins = 0 ∷ []; outs = record { port = 0; link = 1; route = route.Merge up; sequential = true } ∷ [] }
     ∷ (record { number = 2; op = by_row sink; ins = 1 ∷ []; outs = [] } ∷ [])))

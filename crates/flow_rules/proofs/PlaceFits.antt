@@ -5,14 +5,14 @@ use Rattle.ds_schema.specs.Rows.{cols}
 use Rattle.ds_schema.specs.declared.key.Key.{Key}
 use Rattle.flow_graph.specs.Operators.{Op, by_row, changecapture, dsread, funnel, funnel_sequence, funnel_sort, group, import, join, lookup, merge, remdup, tsort}
 use Rattle.flow_graph.specs.Runs.{RouteFits}
-use Rattle.flow_graph.specs.Shapes.{AllWidths, DeclaredFits, IsShaped, SpotFits}
+use Rattle.flow_graph.specs.Shapes.{PassesInto, AllWidths, DeclaredFits, IsShaped, SpotFits}
 use Rattle.flow_graph.specs.declared.place.Place.{Place}
 use Rattle.flow_graph.specs.declared.place.Place.TheVariants.{Hash, Modulus}
 use Rattle.flow_graph.specs.declared.route.Route.{Route}
 use Rattle.flow_graph.specs.declared.state.Spot.{Spot}
 use Rattle.flow_graph.specs.declared.state.State.{State}
-use Rattle.flow_rules.specs.Derive.{all_at_place, carried, carried_place, common_place, declared_state, first_keys, first_state, hashed_if, key_places, modulus_if, places, read_state, routed_state, same_place, solo_state, sorted_state, with_column}
-use Rattle.op_base.specs.Columns.{Lies, Pairs, all_columns, column_in, pairs_of}
+use Rattle.flow_rules.specs.Derive.{kept_place, passed_state, all_at_place, carried, carried_place, common_place, declared_state, first_keys, first_state, hashed_if, key_places, modulus_if, places, read_state, routed_state, same_place, solo_state, sorted_state, with_column}
+use Rattle.op_base.specs.Columns.{Passing, everything, only, Lies, Pairs, all_columns, column_in, pairs_of}
 use Rattle.op_base.specs.Keyed.{get_keys}
 use Rattle.flow_graph.proofs.PassingColumns.{grow, inside, lies_fit, pairs_fit, range_fit}
 use Rattle.flow_rules.proofs.NeedTypes.{Needs, derived_op}
@@ -99,10 +99,26 @@ first_input_fits : (ins : List ℕ) (s : State) (v : ℕ) → v ≡ get_or ins 0
 first_input_fits [] s v e f = absurd f
 first_input_fits (w ∷ ins) s v e f = subst (λ n. SpotFits n s.place) (sym e) f.0
 
+kept_fits : (w : ℕ) (m : Pairs) (p : Spot) → AllByRecursion (λ (e : ℕ × ℕ). e.1 < w) m → SpotFits w (kept_place m p)
+kept_fits w m spot.Solo h = tt
+kept_fits w m (spot.Placed place) h = place_fits w m (spot.Placed place) h
+kept_fits w m spot.Entire h = tt
+kept_fits w m spot.None h = tt
+
+first_fits : (ins : List ℕ) (states : List State) (v : ℕ) → v ≡ get_or ins 0 0 → AllFit ins states → SpotFits v (first_state states).place
+first_fits ins [] v e f = tt
+first_fits [] (s ∷ states) v e f = absurd f
+first_fits (w ∷ ins) (s ∷ states) v e f = subst (λ n. SpotFits n s.place) (sym e) f.0
+
+-- what passes of the first input
+passed_fits : (ins : List ℕ) (w : ℕ) (m : Passing) (states : List State) → AllFit ins states → PassesInto m (get_or ins 0 0) w → SpotFits w (passed_state m (first_state states)).place
+passed_fits ins w everything states f h = first_fits ins states w h f
+passed_fits ins w (only m) states f h = kept_fits w m (first_state states).place h
+
 pub derived_fits : (op : Op) (ins : List ℕ) (outs : ℕ → ℕ) (q : ℕ) (states : List State) → IsShaped op ins outs → Needs op states → AllFit ins states → SpotFits (outs q) (derived_op op q states).place
 derived_fits (import lines rejects beyond) ins outs q states s n f = tt
 derived_fits (dsread segments place) ins outs q states s n f = read_fits (outs q) (length segments) place (s.3 q)
-derived_fits (by_row rule) ins outs q states s n f = place_fits (outs q) (rule.passes q) (first_state states).place (s.inside q)
+derived_fits (by_row rule) ins outs q states s n f = passed_fits ins (outs q) (rule.passes q) states f (s.inside q)
 derived_fits (tsort keys) ins outs q [] s n f = absurd n
 derived_fits (tsort keys) ins outs q (a ∷ []) s n f = first_input_fits ins a (outs q) (s q) f
 derived_fits (tsort keys) ins outs q (a ∷ (b ∷ states)) s n f = absurd n
@@ -117,9 +133,8 @@ derived_fits (merge m) ins outs zero states s n f =
     (lies_fit (outs 0) (cols (get_keys m.keys 0)) (grow (cols (get_keys m.keys 0)) (get_or ins 0 0) (outs 0) (let a = s.first in let b = ap length s.master ∙ length-range_with 0 (get_or ins 0 0) in omega arith) (subst (Lies (cols (get_keys m.keys 0))) s.master s.keys_in)))
 derived_fits (merge m) ins outs (suc i) states s n f = keyed_fits (outs (suc i)) m.keys (get_keys m.keys (suc i)) states (lies_fit (outs (suc i)) (cols (get_keys m.keys (suc i))) (s.other_keys i))
 derived_fits (lookup k) ins outs zero states s n f =
-    place_fits (outs 0) (pairs_of k.main (all_columns (length k.main))) (first_state states).place (pairs_fit (outs 0) k.main (all_columns (length k.main)) (range_fit (outs 0) 0 (length k.main) (let a = s.1 in omega arith)))
-derived_fits (lookup k) ins outs (suc q) states s n f =
-    place_fits (outs (suc q)) (pairs_of k.main k.main) (first_state states).place (pairs_fit (outs (suc q)) k.main k.main (subst (AllByRecursion (λ (c : ℕ). c < outs (suc q))) (sym s.0) (range_fit (outs (suc q)) 0 (get_or ins 0 0) (let a = s.2 q in omega arith))))
+    kept_fits (outs 0) (pairs_of k.main (all_columns (length k.main))) (first_state states).place (pairs_fit (outs 0) k.main (all_columns (length k.main)) (range_fit (outs 0) 0 (length k.main) (let a = s.1 in omega arith)))
+derived_fits (lookup k) ins outs (suc q) states s n f = passed_fits ins (outs (suc q)) everything states f (s.2 q)
 derived_fits (changecapture c) ins outs q states s n f =
     keyed_fits (outs q) (c.keys ∷ (c.keys ∷ [])) c.keys states
     (lies_fit (outs q) (cols c.keys) (grow (cols c.keys) (get_or ins 0 0) (outs q) (let a = s.2 q in let b = ap length s.0 ∙ length-range_with 0 (get_or ins 0 0) in omega arith) (subst (Lies (cols c.keys)) s.0 s.1)))

@@ -132,7 +132,10 @@ set_same None = tt
 set_same (Some G) = (all_set_in G (set_of G) (λ c i. in_set_of c G i), all_set_in (set_of G) G (λ c i. set_in c G i))
 
 -- Both refining rules.
-pub refined_holds : (width : ℕ) (s : State) (parts : List (List Row)) (whole : List Row) → 0 < length parts → AllByRecursion (Wide width) whole → SpotFits width s.place → Holds s parts whole → Holds (refined width s) parts whole
-refined_holds width s parts whole l wide f h =
+pub refined_holds : (regains : Bool) (width : ℕ) (s : State) (parts : List (List Row)) (whole : List Row) → 0 < length parts → AllByRecursion (Wide width) whole → SpotFits width s.place → Holds s parts whole → Holds (refined regains width s) parts whole
+refined_holds true width s parts whole l wide f h =
     let r = regain (filled width s) in
     holds_same_set r.agree (set_if r.agree) r.place r.sort parts whole (set_same r.agree) (regain_holds (filled width s) parts whole l (filled_holds width s.place s parts whole refl l wide f h))
+refined_holds false width s parts whole l wide f h =
+    let r = filled width s in
+    holds_same_set r.agree (set_if r.agree) r.place r.sort parts whole (set_same r.agree) (filled_holds width s.place s parts whole refl l wide f h)

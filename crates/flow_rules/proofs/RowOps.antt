@@ -6,7 +6,8 @@ use Rattle.std.specs.List.{AllByRecursion, range_with_len}
 use Rattle.ds_schema.specs.Rows.{cols, has, row_cmp, sub, val, ways}
 use Rattle.ds_schema.specs.declared.key.Key.{Key}
 use Rattle.ds_value.specs.declared.value.Value.{Value}
-use Rattle.flow_graph.specs.Forms.{looked_pairs}
+use Rattle.flow_graph.specs.Forms.{looked_passing}
+use Rattle.flow_graph.specs.Shapes
 use Rattle.flow_graph.specs.Parts.{Agree, PlacedFrom}
 use Rattle.flow_graph.specs.Placing.{hash_number, modulus_number}
 use Rattle.flow_graph.specs.Shapes.{Carries, Wide}
@@ -14,8 +15,8 @@ use Rattle.flow_graph.specs.States.{AgreeIf, Common, Holds, HoldsIn, LiesAt}
 use Rattle.flow_graph.specs.declared.place.Place.TheVariants.{Hash, Modulus}
 use Rattle.flow_graph.specs.declared.state.Spot.{Spot}
 use Rattle.flow_graph.specs.declared.state.State.{State}
-use Rattle.flow_rules.specs.Derive.{carried, carried_agree, carried_place, carried_sort, carried_state, hashed_if, key_if, modulus_if}
-use Rattle.op_base.specs.Columns.{Lies, Pairs, Row, all_columns, column_in, no_row, pairs_of}
+use Rattle.flow_rules.specs.Derive.{carried, carried_agree, carried_place, carried_sort, kept_place, passed_state, hashed_if, key_if, modulus_if}
+use Rattle.op_base.specs.Columns.{Passing, everything, only, Lies, Pairs, Row, all_columns, column_in, no_row, pairs_of}
 use Rattle.op_base.specs.Lists.{IsArranged, OneHolds, joined}
 use Rattle.op_base.specs.Meanings.{Looking, if_continues, if_rejected, looked_fault, looked_row}
 use Rattle.op_base.specs.declared.fault.Fault.{Fault}
@@ -105,6 +106,9 @@ rows_agree_if m g h (Some G) parts whole a = go (carried m G) refl
     go None e = tt
     go (Some D) e = rows_agree G D g parts whole (carried_passes m g h G D e) a
 
+abbrev carried_state : Pairs → State → State
+carried_state m s = record { agree = carried_agree m s.agree; place = carried_place m s.place; sort = carried_sort m s.sort }
+
 plain_rows : (m : Pairs) (g : Row → List Row) → ((r : Row) → AllByRecursion (Carries m r) (g r)) → AtMostOne g → (s : State) (parts : List (List Row)) (whole : List Row) → NotEntire s → Holds s parts whole → Holds (carried_state m s) (map (flat_map g) parts) (flat_map g whole)
 plain_rows m g h one s parts whole e holds =
     plain_holds (carried_place m s.place) (carried_state m s) (map (flat_map g) parts) (flat_map g whole) (carried_plain m s.place)
@@ -119,14 +123,47 @@ plain_rows m g h one s parts whole e holds =
         rows_sorted (c.0) (carried_sort m s.sort) g c.3 (λ r. all_map (Carries m r) (λ y. val (cols (carried_sort m s.sort)) y ≡ val (cols (c.0)) r) (λ y q. c.4 r y q) (g r) (h r)) one xs
         (arranged_first (c.0) (c.1) xs (subst (λ ks. IsArranged (row_cmp ks) xs) c.2 up))
 
+kept_is : (m : Pairs) (p : Spot) → p ≢ spot.Entire → carried_place m p ≡ kept_place m p
+kept_is m spot.Solo e = refl
+kept_is m (spot.Placed place) e = refl
+kept_is m spot.Entire e = absurd (e refl)
+kept_is m spot.None e = refl
+
+-- rows that are handed on as they are
+same_val : (C : List ℕ) (g : Row → List Row) → ((r : Row) → AllByRecursion (λ y. y ≡ r) (g r)) → Passes C C g
+same_val C g h r = all_map (λ y. y ≡ r) (λ y. val C y ≡ val C r) (λ y e. ap (val C) e) (g r) (h r)
+
+same_lie : (g : Row → List Row) → ((r : Row) → AllByRecursion (λ y. y ≡ r) (g r)) → (p : Spot) (parts : List (List Row)) → LiesAt p parts → LiesAt p (map (flat_map g) parts)
+same_lie g h spot.Solo parts l = length-map parts (flat_map g) ∙ l
+same_lie g h (spot.Placed (Hash C)) parts l = subst (λ n. PlacedFrom (λ r. hash_number n (val C r)) 0 (map (flat_map g) parts)) (sym (length-map parts (flat_map g))) (rows_placed C C (hash_number (length parts)) g (same_val C g h) 0 parts l)
+same_lie g h (spot.Placed (Modulus c)) parts l = subst (λ n. PlacedFrom (λ r. modulus_number n (val (c ∷ []) r)) 0 (map (flat_map g) parts)) (sym (length-map parts (flat_map g))) (rows_placed (c ∷ []) (c ∷ []) (modulus_number (length parts)) g (same_val (c ∷ []) g h) 0 parts l)
+same_lie g h spot.Entire parts l = tt
+same_lie g h spot.None parts l = tt
+
+same_agree : (g : Row → List Row) → ((r : Row) → AllByRecursion (λ y. y ≡ r) (g r)) → (agree : Option (List ℕ)) (parts : List (List Row)) (whole : List Row) → AgreeIf agree parts whole → AgreeIf agree (map (flat_map g) parts) (flat_map g whole)
+same_agree g h None parts whole a = tt
+same_agree g h (Some G) parts whole a = rows_agree G G g parts whole (same_val G g h) a
+
+same_rows : (g : Row → List Row) → ((r : Row) → AllByRecursion (λ y. y ≡ r) (g r)) → AtMostOne g → (s : State) (parts : List (List Row)) (whole : List Row) → NotEntire s → Holds s parts whole → Holds s (map (flat_map g) parts) (flat_map g whole)
+same_rows g h one s parts whole e holds =
+    let k = holds_plain s.place s parts whole e holds in
+    plain_holds s.place s (map (flat_map g) parts) (flat_map g whole) e
+    (record { bag = rows_bag g parts whole k.0.bag; agree = same_agree g h s.agree parts whole k.0.agree; sorted = (each_sorted _ _ (flat_map g) (λ xs up. rows_sorted s.sort s.sort g refl (same_val (cols s.sort) g h) one xs up) parts k.0.sorted.0, rows_sorted s.sort s.sort g refl (same_val (cols s.sort) g h) one whole k.0.sorted.1) })
+    (same_lie g h s.place parts k.1)
+
+passing_rows : (m : Passing) (g : Row → List Row) → ((r : Row) → AllByRecursion (Shapes.Passes m r) (g r)) → AtMostOne g → (s : State) (parts : List (List Row)) (whole : List Row) → NotEntire s → Holds s parts whole → Holds (passed_state m s) (map (flat_map g) parts) (flat_map g whole)
+passing_rows everything g h one s parts whole e holds = same_rows g h one s parts whole e holds
+passing_rows (only m) g h one s parts whole e holds =
+    subst (λ p. Holds (record { agree = carried_agree m s.agree; place = p; sort = carried_sort m s.sort }) (map (flat_map g) parts) (flat_map g whole)) (kept_is m s.place e) (plain_rows m g h one s parts whole e holds)
+
 -- The state of an operator that works row by row, on rows of one width.
-pub rows_hold : (m : Pairs) (w : ℕ) (g : Row → List Row) → ((r : Row) → Wide w r → AllByRecursion (Carries m r) (g r)) → ((r : Row) → length (g r) ≤ 1) → (s : State) (parts : List (List Row)) (whole : List Row) →
-    NotEntire s → AllByRecursion (Wide w) whole → Holds s parts whole → Holds (carried_state m s) (map (flat_map g) parts) (flat_map g whole)
+pub rows_hold : (m : Passing) (w : ℕ) (g : Row → List Row) → ((r : Row) → Wide w r → AllByRecursion (Shapes.Passes m r) (g r)) → ((r : Row) → length (g r) ≤ 1) → (s : State) (parts : List (List Row)) (whole : List Row) →
+    NotEntire s → AllByRecursion (Wide w) whole → Holds s parts whole → Holds (passed_state m s) (map (flat_map g) parts) (flat_map g whole)
 rows_hold m w g h one s parts whole e wide holds =
     let k = holds_plain s.place s parts whole e holds in
-    subst (λ xs. Holds (carried_state m s) (map (flat_map g) parts) xs) (guard_same w g whole wide)
-    (subst (λ ps. Holds (carried_state m s) ps (flat_map (guarded w g) whole)) (guard_parts w g parts (parts_all (Wide w) parts whole k.0.bag wide))
-    (plain_rows m (guarded w g) (guard_all w g (Carries m) h) (guard_one w g one) s parts whole e holds))
+    subst (λ xs. Holds (passed_state m s) (map (flat_map g) parts) xs) (guard_same w g whole wide)
+    (subst (λ ps. Holds (passed_state m s) ps (flat_map (guarded w g) whole)) (guard_parts w g parts (parts_all (Wide w) parts whole k.0.bag wide))
+    (passing_rows m (guarded w g) (guard_all w g (Shapes.Passes m) h) (guard_one w g one) s parts whole e holds))
 
 entire_at : (s : State) (parts : List (List Row)) (whole : List Row) (p : ℕ) → p < length parts → AllByRecursion (λ rows. Common s (rows ∷ []) whole) parts → Common s (get_or parts p [] ∷ []) whole
 entire_at s [] whole p l h = absurd (omega arith)
@@ -179,37 +216,34 @@ looked_parts {Y} give k s t A B SA SB degree e a r h i la lb =
     find x rows = sub (cols k.reference_keys) (val (cols k.main_keys) x) rows
 
 -- what passes a lookup
-carries_id : (K : List ℕ) (r y : Row) → val K y ≡ val K r → Carries (pairs_of K K) r y
-carries_id K r y e = carries_same K K r y (sym e)
-
 own : (w : ℕ) (r x : Row) → Lies (all_columns w) (all_columns w) → val (all_columns w) (val (all_columns w) r ++ x) ≡ val (all_columns w) r
 own w r x l = picked w (all_columns w) r x l
 
-pub looked_carries : (k : Looking) (w : ℕ) → k.main ≡ all_columns w → (q : ℕ) (r : Row) (found : List Row) → AllByRecursion (Carries (looked_pairs k q) r) (looked_row k q r found)
-looked_carries k w e zero r found = go found
+pub looked_passes : (k : Looking) (w : ℕ) → k.main ≡ all_columns w → (q : ℕ) (r : Row) (found : List Row) → AllByRecursion (Shapes.Passes (looked_passing k q) r) (looked_row k q r found)
+looked_passes k w e zero r found = go found
   where
-    main : (x : List Value) → Carries (looked_pairs k zero) r (val k.main r ++ x)
+    main : (x : List Value) → Carries (pairs_of k.main (all_columns (length k.main))) r (val k.main r ++ x)
     main x = carries_same k.main (all_columns (length k.main)) r (val k.main r ++ x)
         (subst (λ cs. val cs r ≡ val (all_columns (length cs)) (val cs r ++ x)) (sym e) (subst (λ n. val (all_columns w) r ≡ val (all_columns n) (val (all_columns w) r ++ x)) (sym (length-range_with 0 w)) (sym (own w r x (lies_self (all_columns w))))))
 
-    absent : (o : Missing) (x : List Value) → AllByRecursion (Carries (looked_pairs k zero) r) (if_continues o (val k.main r ++ x))
+    absent : (o : Missing) (x : List Value) → AllByRecursion (Carries (pairs_of k.main (all_columns (length k.main))) r) (if_continues o (val k.main r ++ x))
     absent missing.Continue x = (main x, tt)
     absent missing.Drop x = tt
     absent missing.Fail x = tt
     absent missing.Reject x = tt
 
-    go : (rows : List Row) → AllByRecursion (Carries (looked_pairs k zero) r) (looked_row k zero r rows)
+    go : (rows : List Row) → AllByRecursion (Carries (pairs_of k.main (all_columns (length k.main))) r) (looked_row k zero r rows)
     go [] = absent k.missing (val k.others no_row)
     go (b ∷ bs) = (main (val k.others b), tt)
-looked_carries k w e (suc q) r found = go found
+looked_passes k w e (suc q) r found = go found
   where
-    absent : (o : Missing) → AllByRecursion (Carries (looked_pairs k (suc q)) r) (if_rejected o r)
+    absent : (o : Missing) → AllByRecursion (λ y. y ≡ r) (if_rejected o r)
     absent missing.Continue = tt
     absent missing.Drop = tt
     absent missing.Fail = tt
-    absent missing.Reject = (carries_same k.main k.main r r refl, tt)
+    absent missing.Reject = (refl, tt)
 
-    go : (rows : List Row) → AllByRecursion (Carries (looked_pairs k (suc q)) r) (looked_row k (suc q) r rows)
+    go : (rows : List Row) → AllByRecursion (λ y. y ≡ r) (looked_row k (suc q) r rows)
     go [] = absent k.missing
     go (b ∷ bs) = tt
 
@@ -233,10 +267,10 @@ looked_one k (suc q) r (b ∷ bs) = omega arith
 
 -- The state of a lookup's outputs.
 pub lookup_holds : (k : Looking) (q w : ℕ) (s t : State) (A B : List (List Row)) (SA SB : List Row) (degree : ℕ) → k.main ≡ all_columns w → AllByRecursion (Wide w) SA → NotEntire s → AgreesIn k.reference_keys t → ReferenceAt k s t → Holds s A SA → Holds t B SB → length A ≡ degree → length B ≡ degree →
-    Holds (carried_state (looked_pairs k q) s) (map (λ p. flat_map (λ a. looked_row k q a (sub (cols k.reference_keys) (val (cols k.main_keys) a) (get_or B p []))) (get_or A p [])) (range_with_len 0 degree)) (flat_map (λ a. looked_row k q a (sub (cols k.reference_keys) (val (cols k.main_keys) a) SB)) SA)
+    Holds (passed_state (looked_passing k q) s) (map (λ p. flat_map (λ a. looked_row k q a (sub (cols k.reference_keys) (val (cols k.main_keys) a) (get_or B p []))) (get_or A p [])) (range_with_len 0 degree)) (flat_map (λ a. looked_row k q a (sub (cols k.reference_keys) (val (cols k.main_keys) a) SB)) SA)
 lookup_holds k q w s t A B SA SB degree m wide e a r h i la lb =
-    subst (λ ps. Holds (carried_state (looked_pairs k q) s) ps (flat_map give SA)) (sym (looked_parts (looked_row k q) k s t A B SA SB degree e a r h i la lb))
-    (rows_hold (looked_pairs k q) w give (λ x wx. looked_carries k w m q x (find x)) (λ x. looked_one k q x (find x)) s A SA e wide h)
+    subst (λ ps. Holds (passed_state (looked_passing k q) s) ps (flat_map give SA)) (sym (looked_parts (looked_row k q) k s t A B SA SB degree e a r h i la lb))
+    (rows_hold (looked_passing k q) w give (λ x wx. looked_passes k w m q x (find x)) (λ x. looked_one k q x (find x)) s A SA e wide h)
   where
     find : Row → List Row
     find x = sub (cols k.reference_keys) (val (cols k.main_keys) x) SB

@@ -1,6 +1,7 @@
 -- Derived and refined states, and missed needs, by computing; wrong ones are refused.
 use Rattle.std.proofs.Common.{◌≡◌, ℕ, true, false, List, [], ◌∷◌, refl, ap, Option, Some, None}
 use Rattle.ds_schema.specs.declared.key.Key.{Key}
+use Rattle.op_base.specs.Columns.{only}
 use Rattle.op_base.specs.RowOperators.{modify_rule}
 use Rattle.flow_graph.specs.declared.place.Place.TheVariants.{Hash, Modulus}
 use Rattle.flow_graph.specs.declared.route.Route.TheVariants as route
@@ -77,14 +78,18 @@ taken_in_turn : routed_state true route.RoundRobin (by_hash 0) ≡ record { agre
 taken_in_turn = refl
 
 -- an agree set that isn't the place's, regained by the sort; a bag filled, in a place; a set in order
-refinings : (refined 3 (record { agree = Some (0 ∷ (1 ∷ [])); place = spot.Placed (Hash (0 ∷ [])); sort = up 1 }) ≡ record { agree = Some (0 ∷ []); place = spot.Placed (Hash (0 ∷ [])); sort = up 1 })
-    × (refined 2 (record { agree = None; place = spot.Solo; sort = up 1 }) ≡ record { agree = Some (0 ∷ (1 ∷ [])); place = spot.Solo; sort = up 1 })
-    × (refined 3 (record { agree = Some (2 ∷ (0 ∷ (2 ∷ []))); place = spot.None; sort = [] }) ≡ record { agree = Some (0 ∷ (2 ∷ [])); place = spot.None; sort = [] })
-    × (refined 2 (record { agree = Some (0 ∷ (1 ∷ [])); place = spot.Solo; sort = record { col = 1; desc = false } ∷ up 0 }) ≡ record { agree = Some []; place = spot.Solo; sort = record { col = 1; desc = false } ∷ up 0 })
+refinings : (refined true 3 (record { agree = Some (0 ∷ (1 ∷ [])); place = spot.Placed (Hash (0 ∷ [])); sort = up 1 }) ≡ record { agree = Some (0 ∷ []); place = spot.Placed (Hash (0 ∷ [])); sort = up 1 })
+    × (refined true 2 (record { agree = None; place = spot.Solo; sort = up 1 }) ≡ record { agree = Some (0 ∷ (1 ∷ [])); place = spot.Solo; sort = up 1 })
+    × (refined true 3 (record { agree = Some (2 ∷ (0 ∷ (2 ∷ []))); place = spot.None; sort = [] }) ≡ record { agree = Some (0 ∷ (2 ∷ [])); place = spot.None; sort = [] })
+    × (refined true 2 (record { agree = Some (0 ∷ (1 ∷ [])); place = spot.Solo; sort = record { col = 1; desc = false } ∷ up 0 }) ≡ record { agree = Some []; place = spot.Solo; sort = record { col = 1; desc = false } ∷ up 0 })
 refinings = (refl, refl, refl, refl)
 
+-- without regain an agree set stays
+plainly : refined false 3 (record { agree = Some (0 ∷ (1 ∷ [])); place = spot.Placed (Hash (0 ∷ [])); sort = up 1 }) ≡ record { agree = Some (0 ∷ (1 ∷ [])); place = spot.Placed (Hash (0 ∷ [])); sort = up 1 }
+plainly = refl
+
 -- without the columns of the place in the sort nothing is regained
-not_regained : refined 2 (record { agree = Some (1 ∷ []); place = spot.Solo; sort = up 0 }) ≡ record { agree = Some []; place = spot.Solo; sort = up 0 } → ⊥
+not_regained : refined true 2 (record { agree = Some (1 ∷ []); place = spot.Solo; sort = up 0 }) ≡ record { agree = Some []; place = spot.Solo; sort = up 0 } → ⊥
 not_regained e = some_set 1 [] (ap (λ (s : State). s.agree) e)
 
 -- the parts that are missed, in order
@@ -109,7 +114,7 @@ directions = refl
 entire : missed (tsort (up 0)) (record { agree = Some []; place = spot.Entire; sort = [] } ∷ []) 0 ≡ NotEntire ∷ []
 entire = refl
 
-references : (missed (lookup (up 1) (up 0) (λ q. [])) (by_hash 1 ∷ (by_hash 0 ∷ [])) 1 ≡ []) × (missed (lookup (up 1) (up 0) (λ q. [])) (by_hash 0 ∷ (by_hash 0 ∷ [])) 1 ≡ Reference (up 0) ∷ [])
+references : (missed (lookup (up 1) (up 0) (λ q. only [])) (by_hash 1 ∷ (by_hash 0 ∷ [])) 1 ≡ []) × (missed (lookup (up 1) (up 0) (λ q. only [])) (by_hash 0 ∷ (by_hash 0 ∷ [])) 1 ≡ Reference (up 0) ∷ [])
 references = (refl, refl)
 
 merge_routes : route_missed (route.Merge (up 0)) (by_hash 1) ≡ MergeSort (up 0) ∷ []

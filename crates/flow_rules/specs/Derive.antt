@@ -3,7 +3,7 @@ use Rattle.std.specs.Prelude.{ℕ, suc, Bool, true, false, cond, if◌then◌els
 use Rattle.std.specs.Ordering.{nat_cmp}
 use Rattle.ds_schema.specs.declared.key.Key.{Key}
 use Rattle.ds_schema.specs.Rows.{cols}
-use Rattle.op_base.specs.Columns.{Pairs, pairs_of, column_in, all_columns, is_in, lies}
+use Rattle.op_base.specs.Columns.{Pairs, Passing, everything, only, pairs_of, column_in, all_columns, is_in, lies}
 use Rattle.op_base.specs.Keyed.{get_keys, without}
 use Rattle.op_base.specs.Lists.{firsts}
 use Rattle.flow_graph.specs.declared.place.Place.{Place}
@@ -38,7 +38,7 @@ abbrev pub modulus_if : Option ℕ → Spot
 modulus_if None = spot.None
 modulus_if (Some c) = spot.Placed (Modulus c)
 
--- a place where its columns pass
+-- a place where its columns pass, over another input's or an output's columns
 abbrev pub carried_place : Pairs → Spot → Spot
 carried_place m spot.Solo = spot.Solo
 carried_place m (spot.Placed (Hash C)) = hashed_if (carried m C)
@@ -55,8 +55,17 @@ abbrev pub carried_sort : Pairs → List Key → List Key
 carried_sort m [] = []
 carried_sort m (k ∷ keys) = key_if (column_in m k.col) k.desc (carried_sort m keys)
 
-abbrev pub carried_state : Pairs → State → State
-carried_state m s = record { agree = carried_agree m s.agree; place = carried_place m s.place; sort = carried_sort m s.sort }
+-- a place as it is kept where its columns pass; entire has none
+abbrev pub kept_place : Pairs → Spot → Spot
+kept_place m spot.Solo = spot.Solo
+kept_place m (spot.Placed place) = carried_place m (spot.Placed place)
+kept_place m spot.Entire = spot.Entire
+kept_place m spot.None = spot.None
+
+-- a state as far as it passes
+abbrev pub passed_state : Passing → State → State
+passed_state everything s = s
+passed_state (only m) s = record { agree = carried_agree m s.agree; place = kept_place m s.place; sort = carried_sort m s.sort }
 
 -- solo, or a place whose columns are all among these
 abbrev pub placed_in : List ℕ → Spot → Bool
@@ -174,13 +183,13 @@ first_state (s ∷ states) = s
 abbrev pub derived : Form → ℕ → List State → State
 derived import q states = solo_state
 derived (dsread partitions declared) q states = read_state partitions declared
-derived (by_row passes) q states = carried_state (passes q) (first_state states)
+derived (by_row passes) q states = passed_state (passes q) (first_state states)
 derived (tsort keys) q states = sorted_state (Some keys) (first_state states)
 derived (remdup keys) q states = let s = first_state states in record { agree = cond (agrees_in (cols keys) s.agree) s.agree None; place = s.place; sort = s.sort }
 derived (group keys hashes sees_order) q states = grouped_state keys hashes (first_state states)
 derived (join left right) q states = keyed_state (left ∷ (right ∷ [])) (first_keys 0 left) states
 derived (merge keys) q states = keyed_state keys (get_keys keys q) states
-derived (lookup main reference passes) q states = carried_state (passes q) (first_state states)
+derived (lookup main reference passes) q states = passed_state (passes q) (first_state states)
 derived (changecapture keys) q states = keyed_state (keys ∷ (keys ∷ [])) keys states
 derived funnel q states = record { agree = None; place = common_place (places states); sort = [] }
 derived funnel_sequence q states = record { agree = if_common (common_place (places states)) (agree_sets states) []; place = common_place (places states); sort = [] }
@@ -254,9 +263,10 @@ abbrev pub set_if : Option (List ℕ) → Option (List ℕ)
 set_if None = None
 set_if (Some G) = Some (set_of G)
 
-abbrev pub as_set : State → State
-as_set s = record { agree = set_if s.agree; place = s.place; sort = s.sort }
+-- refining: all columns for none where there is a place, then, where that is asked for, regain; the agree set is a set
+abbrev pub refined_agree : Bool → ℕ → State → Option (List ℕ)
+refined_agree true width s = (regain (filled width s)).agree
+refined_agree false width s = (filled width s).agree
 
--- refining: all columns for none where there is a place, then regain; what is left is a set
-abbrev pub refined : ℕ → State → State
-refined width s = as_set (regain (filled width s))
+abbrev pub refined : Bool → ℕ → State → State
+refined regains width s = record { agree = set_if (refined_agree regains width s); place = s.place; sort = s.sort }

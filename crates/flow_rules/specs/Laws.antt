@@ -56,7 +56,7 @@ RegainHolds = (s : State) (parts : List (List Row)) (whole : List Row) → 0 < l
 
 -- both refining rules, on rows of one width
 abbrev pub RefiningHolds : Type 0
-RefiningHolds = (width : ℕ) (s : State) (parts : List (List Row)) (whole : List Row) → 0 < length parts → AllByRecursion (Wide width) whole → SpotFits width s.place → Holds s parts whole → Holds (refined width s) parts whole
+RefiningHolds = (regains : Bool) (width : ℕ) (s : State) (parts : List (List Row)) (whole : List Row) → 0 < length parts → AllByRecursion (Wide width) whole → SpotFits width s.place → Holds s parts whole → Holds (refined regains width s) parts whole
 
 -- where some columns agree, the partitions hold the rows of the whole; where no columns do, they are the whole
 abbrev pub AgreementIsWhole : Type 0
@@ -67,11 +67,11 @@ ExactIsWhole = (parts : List (List Row)) (whole : List Row) → Agree [] parts w
 
 -- In a legal run of an accepted flow each link keeps what its state says, and each operator has the faults that it has on the whole.
 abbrev pub FlowsKeep : Type 0
-FlowsKeep = (nodes : List Node) (width : ℕ → ℕ) (sorts : ℕ → Option (List Key)) (state : ℕ → State) (whole : ℕ → List Row) (run : Lists) → Sound nodes width sorts state whole run →
+FlowsKeep = (regains : Bool) (nodes : List Node) (width : ℕ → ℕ) (sorts : ℕ → Option (List Key)) (state : ℕ → State) (whole : ℕ → List Row) (run : Lists) → Sound regains nodes width sorts state whole run →
     AllByRecursion (λ (n : Node). AllByRecursion (λ (o : Out). Keeps width sorts state whole run o.link) n.outs × IsPermutation (joined (run.failed n.number)) (faults n.op (map whole n.ins))) nodes
 
 abbrev pub FlowFaultsAgree : Type 0
-FlowFaultsAgree = (nodes : List Node) (width : ℕ → ℕ) (sorts : ℕ → Option (List Key)) (state : ℕ → State) (whole : ℕ → List Row) (run : Lists) → Sound nodes width sorts state whole run →
+FlowFaultsAgree = (regains : Bool) (nodes : List Node) (width : ℕ → ℕ) (sorts : ℕ → Option (List Key)) (state : ℕ → State) (whole : ℕ → List Row) (run : Lists) → Sound regains nodes width sorts state whole run →
     IsPermutation (run_faults run nodes) (meant_faults whole nodes)
 
 -- A sink that misses nothing gets what the grade of its link says of the meaning itself: no sort stands before it.

@@ -1,5 +1,5 @@
 -- Accepted flows and their legal runs, and what is promised of each link.
-use Rattle.std.specs.Prelude.{◌≡◌, ℕ, List, [], map, length, Option}
+use Rattle.std.specs.Prelude.{Bool, ◌≡◌, ℕ, List, [], map, length, Option}
 use Rattle.std.specs.List.{AllByRecursion, range_with_len}
 use Rattle.ds_schema.specs.declared.key.Key.{Key}
 use Rattle.op_base.specs.Columns.{Row}
@@ -13,27 +13,27 @@ use Rattle.flow_rules.specs.Derive.{derived, refined, routed_state, sorted_state
 use Rattle.flow_rules.specs.Needs.{missed, route_missed}
 
 -- the state of what an operator puts on a link, before the route
-abbrev pub output_state : (ℕ → ℕ) → (ℕ → State) → Node → Out → State
-output_state width state n o = refined (width o.link) (derived (form n.op) o.port (map state n.ins))
+abbrev pub output_state : Bool → (ℕ → ℕ) → (ℕ → State) → Node → Out → State
+output_state regains width state n o = refined regains (width o.link) (derived (form n.op) o.port (map state n.ins))
 
 -- the states of the links that leave an operator, by those of its inputs
-abbrev pub Derives : (ℕ → ℕ) → (ℕ → Option (List Key)) → (ℕ → State) → Node → Type 0
-Derives width sorts state n =
-    AllByRecursion (λ (o : Out). state o.link ≡ refined (width o.link) (sorted_state (sorts o.link) (routed_state o.sequential o.route (output_state width state n o)))) n.outs
+abbrev pub Derives : Bool → (ℕ → ℕ) → (ℕ → Option (List Key)) → (ℕ → State) → Node → Type 0
+Derives regains width sorts state n =
+    AllByRecursion (λ (o : Out). state o.link ≡ refined regains (width o.link) (sorted_state (sorts o.link) (routed_state o.sequential o.route (output_state regains width state n o)))) n.outs
 
 -- no input and no route misses a part of its need
-abbrev pub Accepted : (ℕ → ℕ) → (ℕ → State) → Node → Type 0
-Accepted width state n =
+abbrev pub Accepted : Bool → (ℕ → ℕ) → (ℕ → State) → Node → Type 0
+Accepted regains width state n =
     AllByRecursion (λ i. missed (form n.op) (map state n.ins) i ≡ []) (range_with_len 0 (length n.ins))
-    × AllByRecursion (λ (o : Out). route_missed o.route (output_state width state n o) ≡ []) n.outs
+    × AllByRecursion (λ (o : Out). route_missed o.route (output_state regains width state n o) ≡ []) n.outs
 
--- A shaped flow that is accepted, with its inserted sorts, what it means, and a legal run of it.
-pub record Sound (nodes : List Node) (width : ℕ → ℕ) (sorts : ℕ → Option (List Key)) (state : ℕ → State) (whole : ℕ → List Row) (run : Lists) : Type 0 where
+-- A shaped flow that is accepted, by refining with regain or without, with its inserted sorts, what it means, and a legal run of it.
+pub record Sound (regains : Bool) (nodes : List Node) (width : ℕ → ℕ) (sorts : ℕ → Option (List Key)) (state : ℕ → State) (whole : ℕ → List Row) (run : Lists) : Type 0 where
   pub forward : Forward [] nodes
   pub shaped : AllByRecursion (FitsShape width) nodes
   pub inserted : AllByRecursion (λ (n : Node). InsertedFrom sorts n.op 0 n.ins) nodes
-  pub derives : AllByRecursion (Derives width sorts state) nodes
-  pub accepted : AllByRecursion (Accepted width state) nodes
+  pub derives : AllByRecursion (Derives regains width sorts state) nodes
+  pub accepted : AllByRecursion (Accepted regains width state) nodes
   pub means : AllByRecursion (Means whole) nodes
   pub runs : AllByRecursion (Runs sorts run) nodes
 

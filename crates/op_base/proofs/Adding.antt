@@ -1,9 +1,7 @@
 -- What is added in two calls is added in one.
-use Rattle.std.proofs.Common.{◌≡◌, ℕ, ◌+◌, ◌≤◌, ◌<◌, ◌^◌, ◌-◌, Option, Some, None, List, [], ◌∷◌, ◌++◌, length, min, refl, ap, sym, ◌∙◌, append_assoc, append-nil, cond, arith}
-use Rattle.std.specs.Prelude.{map}
+use Rattle.std.proofs.Common.{◌≡◌, ℕ, ◌+◌, ◌<◌, ◌^◌, Option, Some, List, [], ◌∷◌, ◌++◌, length, refl, ap, sym, ◌∙◌, append_assoc, append-nil, arith}
 use Rattle.streams.specs.Streams.{Out, sends, fails, faults_out}
 use Rattle.op_base.specs.declared.fault.Fault.{Fault}
-use Rattle.op_base.specs.declared.emit.Sent.{Sent}
 use Rattle.op_base.specs.declared.emit.Emit.{Emit}
 use Rattle.op_base.specs.Columns.{Row}
 use Rattle.op_base.specs.Emits.{rows_sent, counted, lesser, least_of, Adds}

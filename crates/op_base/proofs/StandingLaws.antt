@@ -1,16 +1,15 @@
 -- One more item at the end of what was fed, and operators with one port.
-use Rattle.std.proofs.Common.{◌≡◌, ℕ, zero, suc, ◌<◌, ◌==◌, Bool, true, false, not, ◌&&◌, cond, ◌⊎◌, inl, inr, refl, sym, ap, ap₂, ◌∙◌, subst, List, [], ◌∷◌, ◌++◌, append-nil, arith}
+use Rattle.std.proofs.Common.{◌≡◌, ℕ, zero, suc, ◌<◌, ◌==◌, Bool, true, false, not, ◌&&◌, cond, refl, sym, ap, ◌∙◌, subst, List, [], ◌∷◌, ◌++◌, append-nil, arith}
 use Rattle.std.specs.Prelude.{nat_lt}
-use Rattle.streams.specs.Streams.{Item, row, end, Feed, Stream, has_end, rows, items_of, ended, rows_of, all_below, all_ended}
+use Rattle.streams.specs.Streams.{Item, row, end, Feed, has_end, rows, items_of, ended, rows_of, all_below}
 use Rattle.streams.specs.Operators.{one_wanted}
 use Rattle.streams.proofs.Basics.{and_left, and_right, and_true}
 use Rattle.streams.proofs.Picks.{not_true}
 use Rattle.streams.proofs.StreamLaws.{items-append, eq_true, eq_false}
-use Rattle.std.proofs.lemmas.Bool.{ltb-true, ltb-false}
-use Rattle.op_base.specs.declared.operator.Want.{Want}
-use Rattle.op_base.specs.declared.operator.Want.TheVariants.{Port, Any, Nothing}
+use Rattle.std.proofs.lemmas.Bool.{ltb-true}
+use Rattle.op_base.specs.declared.operator.Want.TheVariants.{Port, Nothing}
 use Rattle.op_base.specs.Columns.{Row}
-use Rattle.op_base.specs.Standing.{RowStream, row_feed, end_feed, Answers, MayFeed}
+use Rattle.op_base.specs.Standing.{RowStream, row_feed, end_feed, Answers}
 
 end-more : {X : Type 0} (xs ys : List (Item X)) → has_end (xs ++ ys) ≡ cond (has_end xs) true (has_end ys)
 end-more [] ys = refl

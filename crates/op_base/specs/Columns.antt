@@ -1,5 +1,5 @@
 -- Rows as lists of values, lists of columns, and the columns of one row that stand in another.
-use Rattle.std.specs.Prelude.{◌≡◌, ℕ, Bool, true, false, cond, ◌&&◌, ◌⊎◌, ◌==◌, List, [], ◌∷◌, Option, Some, None}
+use Rattle.std.specs.Prelude.{ℕ, Bool, true, false, cond, ◌&&◌, ◌==◌, List, [], ◌∷◌, Option, Some, None}
 use Rattle.std.specs.List.{AllByRecursion, range_with_len}
 use Rattle.ds_value.specs.declared.value.Value.{Value}
 pub use Rattle.streams.specs.Lists.{IsIn}
@@ -37,9 +37,10 @@ pairs_of [] ds = []
 pairs_of (c ∷ cs) [] = []
 pairs_of (c ∷ cs) (d ∷ ds) = (c, d) ∷ pairs_of cs ds
 
--- all columns as they are
-abbrev pub as_it_is : ℕ → Pairs
-as_it_is width = pairs_of (all_columns width) (all_columns width)
+-- what passes of an input's rows to an output: the rows as they are, or some of their columns
+pub data Passing : Type 0 where
+  everything : Passing
+  only : Pairs → Passing
 
 -- the output column that holds an input column's values, the first of them where there are several
 abbrev pub column_in : Pairs → ℕ → Option ℕ

@@ -1,5 +1,5 @@
 -- What a call adds to what was emitted: rows in their order, the number of faults, and the least fault.
-use Rattle.std.specs.Prelude.{◌≡◌, ℕ, ◌+◌, ◌-◌, ◌^◌, min, Bool, Option, Some, None, List, [], ◌∷◌, ◌++◌, length, if◌then◌else◌}
+use Rattle.std.specs.Prelude.{◌≡◌, ℕ, ◌+◌, ◌-◌, ◌^◌, min, Option, Some, None, List, [], ◌∷◌, ◌++◌, length, if◌then◌else◌}
 use Rattle.std.specs.Ordering.{is_lt}
 use Rattle.streams.specs.Streams.{Out, sends, fails, faults_out}
 use Rattle.op_base.specs.declared.fault.Fault.{Fault}

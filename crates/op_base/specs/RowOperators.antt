@@ -4,16 +4,16 @@ use Rattle.std.specs.List.{filter}
 use Rattle.ds_value.specs.declared.value.Value.{Value}
 use Rattle.ds_schema.specs.Rows.{at, val}
 use Rattle.op_base.specs.declared.fault.Fault.{Fault}
-use Rattle.op_base.specs.Columns.{Row, Pairs, pairs_of, all_columns, as_it_is, is_in}
+use Rattle.op_base.specs.Columns.{Row, Passing, everything, only, pairs_of, all_columns, is_in}
 
--- what a row alone gives to each output, its faults, and the columns that pass: each input column with the output column that holds it
+-- what a row alone gives to each output, its faults, and what passes to each output
 pub record RowRule : Type 0 where
   pub rows : ℕ → Row → List Row
   pub faults : Row → List Fault
-  pub passes : ℕ → Pairs
+  pub passes : ℕ → Passing
 
-abbrev pub copy_rule : ℕ → RowRule
-copy_rule width = record { rows = λ q r. r ∷ []; faults = λ r. []; passes = λ q. as_it_is width }
+abbrev pub copy_rule : RowRule
+copy_rule = record { rows = λ q r. r ∷ []; faults = λ r. []; passes = λ q. everything }
 
 -- what a condition says of a row
 pub data Judged : Type 0 where
@@ -41,8 +41,8 @@ abbrev pub filter_rows : (Row → Judged) → Bool → ℕ → Row → List Row
 filter_rows test rejects zero r = if_yes (test r) r
 filter_rows test rejects (suc q) r = cond rejects (if_no (test r) r) []
 
-abbrev pub filter_rule : ℕ → (Row → Judged) → Bool → RowRule
-filter_rule width test rejects = record { rows = filter_rows test rejects; faults = λ r. judged_faults (test r); passes = λ q. as_it_is width }
+abbrev pub filter_rule : (Row → Judged) → Bool → RowRule
+filter_rule test rejects = record { rows = filter_rows test rejects; faults = λ r. judged_faults (test r); passes = λ q. everything }
 
 -- a case by its number, or none of them
 pub data Case : Type 0 where
@@ -60,12 +60,12 @@ case_faults (case i) = []
 case_faults other = []
 case_faults (case_fails f) = f ∷ []
 
-abbrev pub switch_rule : ℕ → ℕ → (Row → Case) → Bool → RowRule
-switch_rule width cases on rejects = record { rows = λ q r. case_rows cases rejects (on r) q r; faults = λ r. case_faults (on r); passes = λ q. as_it_is width }
+abbrev pub switch_rule : ℕ → (Row → Case) → Bool → RowRule
+switch_rule cases on rejects = record { rows = λ q r. case_rows cases rejects (on r) q r; faults = λ r. case_faults (on r); passes = λ q. everything }
 
 -- kept columns in their order, under new names
 abbrev pub modify_rule : List ℕ → RowRule
-modify_rule kept = record { rows = λ q r. val kept r ∷ []; faults = λ r. []; passes = λ q. pairs_of kept (all_columns (length kept)) }
+modify_rule kept = record { rows = λ q r. val kept r ∷ []; faults = λ r. []; passes = λ q. only (pairs_of kept (all_columns (length kept))) }
 
 -- the values of what is set, or the first fault
 pub data Computed : Type 0 where
@@ -97,9 +97,9 @@ transform_rows columns targets compute rejects (suc q) r = cond rejects (failed_
 abbrev pub not_set : List ℕ → List ℕ → List ℕ
 not_set targets columns = filter (λ c. cond (is_in c targets) false true) columns
 
-abbrev pub transform_passes : ℕ → List ℕ → ℕ → Pairs
-transform_passes width targets zero = pairs_of (not_set targets (all_columns width)) (not_set targets (all_columns width))
-transform_passes width targets (suc q) = as_it_is width
+abbrev pub transform_passes : ℕ → List ℕ → ℕ → Passing
+transform_passes width targets zero = only (pairs_of (not_set targets (all_columns width)) (not_set targets (all_columns width)))
+transform_passes width targets (suc q) = everything
 
 -- a present column is replaced in its place, a new one appended; a row that faults goes to output 1 with -reject, without a fault
 abbrev pub transform_rule : ℕ → ℕ → List ℕ → (Row → Computed) → Bool → RowRule
@@ -107,4 +107,4 @@ transform_rule width columns targets compute rejects = record { rows = transform
 
 -- what is written gives no output; what can't be written is a fault
 abbrev pub sink_rule : (Row → List Fault) → RowRule
-sink_rule unwritable = record { rows = λ q r. []; faults = unwritable; passes = λ q. [] }
+sink_rule unwritable = record { rows = λ q r. []; faults = unwritable; passes = λ q. only [] }
