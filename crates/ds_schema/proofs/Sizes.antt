@@ -1,6 +1,5 @@
 -- Numbers that are too large however their digits go on.
-use Rattle.std.proofs.Common.{◌≡◌, ◌+◌, ◌*◌, ◌-◌, ◌<◌, ◌≤◌, ℕ, suc, List, [], ◌∷◌, Bool, true, false, length, drop, get_or, arith, rules, subst, drop-cons, refl, sym, ap, ◌∙◌}
-use Rattle.std.specs.Prelude.{◌&&◌, nat_le}
+use Rattle.std.proofs.Common.{◌≡◌, ◌+◌, ◌*◌, ◌-◌, ◌<◌, ◌≤◌, ℕ, suc, List, [], ◌∷◌, true, false, length, drop, get_or, arith, drop-cons, sym, ap, ◌∙◌}
 use Rattle.std.specs.Char.{digit_value}
 use Rattle.std.specs.Str.Parse.{digits_value, digits_value_after}
 use Rattle.std.proofs.lemmas.Bool.Decides.{nat_tests}
@@ -12,7 +11,7 @@ grows : (n : ℕ) (ds : List ℕ) → n ≤ digits_value_after 10 n ds
 grows n [] = omega arith
 grows n (c ∷ cs) = omega (arith, grows (n * 10 + digit_value c) cs)
 
-digit_is : (c : ℕ) → is_digit c ≡ true → digit_value c + 48 ≡ c
+pub digit_is : (c : ℕ) → is_digit c ≡ true → digit_value c + 48 ≡ c
 digit_is c h = digit_value_digit c (grind (arith, nat_tests))
 
 -- the value passed the bound at a digit

@@ -2,3 +2,4 @@ pub mod Rows
 pub mod Schemas
 pub mod SchemaText
 pub mod SchemaReading
+pub mod SchemaGrammar

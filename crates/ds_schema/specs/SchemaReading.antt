@@ -10,9 +10,8 @@ use Rattle.ds_lex.specs.declared.token.Sort.TheVariants as sort
 use Rattle.ds_lex.specs.declared.refusal.Refusal.{Refusal}
 use Rattle.ds_lex.specs.declared.refusal.Refusal.TheVariants as refusal
 use Rattle.ds_lex.specs.Pieces.{is_digit, is_opt_byte, opens_word, begins_with}
-use Rattle.ds_lex.specs.Lexed.{lexed}
 use Rattle.ds_lex.specs.Lexemes.{Lexeme, lexed_text}
-use Rattle.ds_lex.specs.Reading.{◌>>=◌, refuse, sort_at, expect_at, accept_at, finish_at}
+use Rattle.ds_lex.specs.Reading.{◌>>=◌, refuse, is_sort, token_at, sort_at, expect_at, accept_at, finish_at}
 use Rattle.ds_schema.specs.declared.schema.Field.{Field}
 use Rattle.ds_schema.specs.declared.schema_text.fault.SchemaWhy.{SchemaWhy}
 use Rattle.ds_schema.specs.declared.schema_text.fault.SchemaWhy.TheVariants.{Token, Syntax, NoType, Size, Name, Count}
@@ -76,18 +75,22 @@ unfoldable pub text_at : List Lexeme → Result (Kind × List Lexeme) (Refusal S
 text_at ts = if (accept_at (codes "[") ts).0 then length_at (accept_at (codes "[") ts).1 else Ok (kind.Text 4096 false, (accept_at (codes "[") ts).1)
 
 -- the types that are one word
+abbrev pub plain_kinds : List (List ℕ × Kind)
+plain_kinds =
+    (codes "int8", kind.Int 8) ∷ (codes "int16", kind.Int 16) ∷ (codes "int32", kind.Int 32) ∷ (codes "int64", kind.Int 64)
+    ∷ (codes "uint8", kind.UInt 8) ∷ (codes "uint16", kind.UInt 16) ∷ (codes "uint32", kind.UInt 32) ∷ (codes "uint64", kind.UInt 64)
+    ∷ (codes "date", kind.Date) ∷ []
+
+abbrev pub kind_among : List (List ℕ × Kind) → List ℕ → Option Kind
+kind_among [] word = None
+kind_among (entry ∷ entries) word = if bytes_eq word entry.0 then Some entry.1 else kind_among entries word
+
 abbrev pub plain_kind : List ℕ → Option Kind
-plain_kind word =
-    if bytes_eq word (codes "int8") then Some (kind.Int 8)
-    else if bytes_eq word (codes "int16") then Some (kind.Int 16)
-    else if bytes_eq word (codes "int32") then Some (kind.Int 32)
-    else if bytes_eq word (codes "int64") then Some (kind.Int 64)
-    else if bytes_eq word (codes "uint8") then Some (kind.UInt 8)
-    else if bytes_eq word (codes "uint16") then Some (kind.UInt 16)
-    else if bytes_eq word (codes "uint32") then Some (kind.UInt 32)
-    else if bytes_eq word (codes "uint64") then Some (kind.UInt 64)
-    else if bytes_eq word (codes "date") then Some kind.Date
-    else None
+plain_kind word = kind_among plain_kinds word
+
+-- a word that is no type, or a token that is no word
+abbrev pub no_type : Lexeme → SchemaWhy
+no_type t = if is_sort sort.Word t.sort then NoType else Syntax
 
 -- behind the word that begins a type
 unfoldable pub kind_behind : Option Kind → Lexeme → List Lexeme → Result (Kind × List Lexeme) (Refusal SchemaWhy)
@@ -95,11 +98,11 @@ kind_behind (Some kind) word ts = Ok (kind, ts)
 kind_behind None word ts =
     if bytes_eq word.bytes (codes "decimal") then decimal_at ts
     else if bytes_eq word.bytes (codes "string") then text_at ts
-    else refuse word NoType
+    else refuse word (no_type word)
 
 unfoldable pub kind_at : List Lexeme → Result (Kind × List Lexeme) (Refusal SchemaWhy)
 kind_at ts = do
-  w ← sort_at sort.Word Syntax ts
+  w ← token_at SchemaWhy ts
   kind_behind (plain_kind w.0.bytes) w.0 w.1
 
 unfoldable pub field_at : List Field → List Lexeme → Result (Field × List Lexeme) (Refusal SchemaWhy)

@@ -43,10 +43,7 @@ fn has_field(fields: &[Field], name: &[u8]) -> bool
 
 /// The name of a field, where no field has it yet.
 #[tactic(auto, unfolding(crate::specs::SchemaReading::name_at))]
-fn name<'a>(
-    fields: &[Field],
-    cursor: &mut Cursor<'a>,
-) -> Result<Lexeme<'a>, Refusal<SchemaWhy>>
+fn name<'a>(fields: &[Field], cursor: &mut Cursor<'a>) -> Result<Lexeme<'a>, Refusal<SchemaWhy>>
     ensures read { moved_token result cursor.new ≡ name_at fields.now cursor.old }
     ensures name { IfOk result (λ word. is_field_name word.bytes.now ≡ true) }
 {
@@ -112,7 +109,7 @@ fn fields(alloc: Global, cursor: &mut Cursor<'_>) -> Result<Items<Field>, Stop<S
     ensures { Moves result cursor.new (fields_at 256 [] cursor.old) }
 {
     let mut fields = Vec::new(alloc);
-    for _count in 0..256 {
+    for _count in 0..256_usize {
         let field = further_field(alloc, fields.as_slice(), cursor)?;
         let more = separator(cursor)?;
         fields.push(field)?;

@@ -4,7 +4,7 @@ ghost use Rattle.std.specs.Prelude.{◌≡◌, ◌<◌, ◌≤◌, ◌^◌, Some
 ghost use Rattle.std.specs.Str.Parse.{digits_value};
 ghost use Rattle.ds_lex.specs.Lexemes.{lexeme};
 ghost use Rattle.ds_lex.specs.Reading.{moved};
-ghost use Rattle.ds_schema.specs.SchemaReading.{decimal_at, equals_at, fixed_at, is_size, kind_at, kind_behind, length_at, plain_kind, scale_at, size_at, text_at};
+ghost use Rattle.ds_schema.specs.SchemaReading.{decimal_at, equals_at, fixed_at, is_size, kind_at, kind_behind, length_at, no_type, plain_kind, scale_at, size_at, text_at};
 
 use crate::schema_text::fault::SchemaWhy;
 use ds_lex::{Cursor, Lexeme, Refusal, Sort, is_digit};
@@ -127,6 +127,15 @@ fn plain_kind(word: &[u8]) -> Option<Kind>
     }
 }
 
+fn no_type(word: Lexeme<'_>) -> SchemaWhy
+    ensures { result ≡ no_type (lexeme word.entry) }
+{
+    match word.sort {
+        Sort::Word => SchemaWhy::NoType,
+        _ => SchemaWhy::Syntax,
+    }
+}
+
 #[tactic(auto, unfolding(crate::specs::SchemaReading::kind_behind))]
 fn kind_behind(word: Lexeme<'_>, cursor: &mut Cursor<'_>) -> Result<Kind, Refusal<SchemaWhy>>
     ensures { moved result cursor.new ≡ kind_behind (plain_kind word.entry.bytes.now) (lexeme word.entry) cursor.old }
@@ -140,7 +149,7 @@ fn kind_behind(word: Lexeme<'_>, cursor: &mut Cursor<'_>) -> Result<Kind, Refusa
     if word.bytes == b"string".as_slice() {
         return text(cursor);
     }
-    Err(refuse(word, SchemaWhy::NoType))
+    Err(refuse(word, no_type(word)))
 }
 
 /// The type of a field.
@@ -148,6 +157,6 @@ fn kind_behind(word: Lexeme<'_>, cursor: &mut Cursor<'_>) -> Result<Kind, Refusa
 pub fn kind(cursor: &mut Cursor<'_>) -> Result<Kind, Refusal<SchemaWhy>>
     ensures { moved result cursor.new ≡ kind_at cursor.old }
 {
-    let word = cursor.expect_sort(Sort::Word, SchemaWhy::Syntax)?;
+    let word = cursor.token::<SchemaWhy>()?;
     kind_behind(word, cursor)
 }

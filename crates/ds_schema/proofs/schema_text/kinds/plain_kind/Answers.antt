@@ -1,4 +1,4 @@
-use Rattle.std.proofs.Common.{◌≡◌, List, ℕ, rules, arith, refl}
+use Rattle.std.proofs.Common.{◌≡◌, rules, arith, refl}
 use Rattle.std.specs.Prelude.{codes}
 use Rattle.std.proofs.lemmas.Slice.Eq.{text_from_reads}
 use Rattle.ds_schema.proofs.schema_text.kinds.plain_kind.Goals as goal

@@ -1,4 +1,4 @@
-use Rattle.std.proofs.Common.{◌≡◌, ◌<◌, ◌+◌, ◌*◌, ◌-◌, Bool, true, get_or, arith, refl, sym, ◌∙◌}
+use Rattle.std.proofs.Common.{◌≡◌, ◌<◌, ◌+◌, ◌*◌, ◌-◌, true, get_or, arith, refl, sym, ◌∙◌}
 use Rattle.ds_lex.specs.Pieces.{is_digit}
 use Rattle.ds_schema.proofs.Sizes.{passes, too_large}
 use Rattle.ds_schema.proofs.schema_text.kinds.size_of.Goals as goal
