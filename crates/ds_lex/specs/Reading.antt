@@ -8,7 +8,8 @@ use Rattle.ds_lex.specs.declared.refusal.Refusal.{Refusal}
 use Rattle.ds_lex.specs.declared.refusal.Refusal.TheVariants as refusal
 use Rattle.ds_lex.specs.declared.refusal.Stop.{Stop}
 use Rattle.ds_lex.specs.declared.refusal.Stop.TheVariants as stop
-use Rattle.ds_lex.specs.Lexemes.{Lexeme}
+use Rattle.ds_lex.specs.declared.lexeme.Lexeme.{Lexeme as Borrowed}
+use Rattle.ds_lex.specs.Lexemes.{Lexeme, lexeme}
 
 -- reads what follows, where the first part could be read
 infixl 10 ◌>>=◌
@@ -62,10 +63,15 @@ abbrev pub next_place : ℕ → List Lexeme → ℕ
 next_place end [] = end
 next_place end (t ∷ ts) = t.at
 
--- what a call that left these tokens answered, seen by a view
-abbrev pub moved : {W X Y : Type 0} → (X → Y) → Result X (Refusal W) → List Lexeme → Result (Y × List Lexeme) (Refusal W)
-moved view (Ok x) left = Ok (view x, left)
-moved view (Err e) left = Err e
+-- what a call that left these tokens answered
+abbrev pub moved : {W X : Type 0} → Result X (Refusal W) → List Lexeme → Result (X × List Lexeme) (Refusal W)
+moved (Ok x) left = Ok (x, left)
+moved (Err e) left = Err e
+
+-- the same of a call that gives a token
+abbrev pub moved_token : {W : Type 0} → Result Borrowed (Refusal W) → List Lexeme → Result (Lexeme × List Lexeme) (Refusal W)
+moved_token (Ok t) left = Ok (lexeme t, left)
+moved_token (Err e) left = Err e
 
 -- A call that stopped stopped as the reader does, unless memory ran out.
 abbrev pub Fails : {W Y : Type 0} → Stop W → Result Y (Refusal W) → Type 0

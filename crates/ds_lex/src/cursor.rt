@@ -3,7 +3,7 @@
 ghost use Rattle.std.specs.Prelude.{◌≡◌, ◌==◌, length, OnErr};
 ghost use Rattle.std.specs.Option.{option_map};
 ghost use Rattle.ds_lex.specs.Lexemes.{lexeme, lexemes};
-ghost use Rattle.ds_lex.specs.Reading.{accept_at, expect_at, finish_at, first_of, is_sort, moved, next_place, sort_at, token_at};
+ghost use Rattle.ds_lex.specs.Reading.{accept_at, expect_at, finish_at, first_of, is_sort, moved_token, next_place, sort_at, token_at};
 
 use crate::lexeme::Lexeme;
 use crate::refusal::Refusal;
@@ -79,7 +79,7 @@ impl<'a> Cursor<'a> {
     /// Passes over the next token.
     #[tactic(auto, unfolding(crate::specs::Reading::token_at))]
     pub fn token<W>(&mut self) -> Result<Lexeme<'a>, Refusal<W>>
-        ensures read { moved lexeme result self.new ≡ token_at W self.old }
+        ensures read { moved_token result self.new ≡ token_at W self.old }
         ensures unchanged { OnErr result (self.new ≡ self.old) }
     {
         match self.rest {
@@ -94,7 +94,7 @@ impl<'a> Cursor<'a> {
     /// Passes over this word or sign; another token is refused for this cause.
     #[tactic(auto, unfolding(crate::specs::Reading::expect_at))]
     pub fn expect<W: Copy>(&mut self, word: &[u8], why: W) -> Result<Lexeme<'a>, Refusal<W>>
-        ensures read { moved lexeme result self.new ≡ expect_at word.now why self.old }
+        ensures read { moved_token result self.new ≡ expect_at word.now why self.old }
         ensures unchanged { OnErr result (self.new ≡ self.old) }
     {
         match self.rest {
@@ -113,7 +113,7 @@ impl<'a> Cursor<'a> {
     /// Passes over a token of this sort; another token is refused for this cause.
     #[tactic(auto, unfolding(crate::specs::Reading::sort_at))]
     pub fn expect_sort<W: Copy>(&mut self, wanted: Sort, why: W) -> Result<Lexeme<'a>, Refusal<W>>
-        ensures read { moved lexeme result self.new ≡ sort_at wanted why self.old }
+        ensures read { moved_token result self.new ≡ sort_at wanted why self.old }
         ensures unchanged { OnErr result (self.new ≡ self.old) }
     {
         match self.rest {

@@ -12,7 +12,8 @@ fn is_blank(b: u8) -> bool
     b == b'\t' || b == b'\n' || b == b'\r' || b == b' '
 }
 
-fn is_digit(b: u8) -> bool
+/// '0' to '9'.
+pub fn is_digit(b: u8) -> bool
     ensures { result ≡ is_digit b }
 {
     b'0' <= b && b <= b'9'
@@ -24,7 +25,8 @@ fn is_letter(b: u8) -> bool
     (b'A' <= b && b <= b'Z') || (b'a' <= b && b <= b'z')
 }
 
-fn is_opt_byte(b: u8) -> bool
+/// A letter, a digit or '_'.
+pub fn is_opt_byte(b: u8) -> bool
     ensures { result ≡ is_opt_byte b }
 {
     is_letter(b) || is_digit(b) || b == b'_'
@@ -196,7 +198,8 @@ fn opens_comment(b: u8, rest: &[u8]) -> bool
     b == b'/' && begins_with_star(rest)
 }
 
-fn opens_word(b: u8) -> bool
+/// A letter or '_'.
+pub fn opens_word(b: u8) -> bool
     ensures { result ≡ opens_word b }
 {
     is_letter(b) || b == b'_'

@@ -1,0 +1,7 @@
+pub mod FieldLoops
+pub mod FieldNames
+pub mod FieldReaders
+pub mod KindReaders
+pub mod SchemaReaders
+pub mod SizeReaders
+pub mod Sizes

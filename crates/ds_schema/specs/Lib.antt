@@ -1,3 +1,5 @@
 pub mod Rows
 pub mod Schemas
 pub mod SchemaText
+pub mod SchemaReading
+pub mod SchemaGrammar

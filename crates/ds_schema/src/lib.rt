@@ -9,4 +9,4 @@ mod schema_text;
 pub use key::{Key, KeyList};
 pub use row::{Row, copy_row, project};
 pub use schema::{Field, Schema};
-pub use schema_text::print_schema;
+pub use schema_text::{SchemaFault, SchemaWhy, field, kind, print_schema, read_schema};
