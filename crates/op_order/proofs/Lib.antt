@@ -1,3 +1,4 @@
-pub mod Marks
 pub mod Standing
 pub mod Means
+pub mod MarkLaws
+pub mod SortLaws

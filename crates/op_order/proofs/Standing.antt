@@ -13,23 +13,35 @@ use Rattle.op_base.specs.Lists.{last_one}
 use Rattle.op_base.specs.Emits.{Adds}
 use Rattle.op_base.specs.Standing.{row_feed, end_feed}
 use Rattle.op_base.proofs.StandingLaws.{ended-row, ended-end, rows_of-row, rows_of-end, one_port_fed, one_port_open}
+use Rattle.op_order.specs.declared.marked.Marked.{Marked}
+use Rattle.op_order.specs.Marks.{key_mark, AreMarked, rows_in}
 use Rattle.op_order.specs.Ordered.{tsort_stream, same_key, run_row, remdup_stream, TsortStands, RemdupStands, row_gain, end_gain}
 
 -- Tsort
-pub TsortStands-row : (over : Bool) (rows later : List Row) (feeds : List (Feed Row)) (port : ℕ) (r : Row) → port ≡ 0 → later ≡ rows ++ r ∷ [] → TsortStands over rows feeds → TsortStands over later (feeds ++ row_feed port r ∷ [])
-TsortStands-row over rows later feeds port r zero pushed stands = record {
+pub in-more : (rows : List Marked) (m : Marked) → rows_in (rows ++ m ∷ []) ≡ rows_in rows ++ m.row ∷ []
+in-more [] m = refl
+in-more (x ∷ rows) m = ap (λ t. x.row ∷ t) (in-more rows m)
+
+marked-more : (keys : List Key) (rows : List Marked) (m : Marked) → AreMarked keys rows → m.mark ≡ key_mark keys m.row → AreMarked keys (rows ++ m ∷ [])
+marked-more keys [] m h k = (k, tt)
+marked-more keys (x ∷ rows) m h k = (h.0, marked-more keys rows m h.1 k)
+
+pub TsortStands-row : (keys : List Key) (over : Bool) (rows later : List Marked) (m : Marked) (feeds : List (Feed Row)) (port : ℕ) (r : Row) → port ≡ 0 → later ≡ rows ++ m ∷ [] → m.row ≡ r → m.mark ≡ key_mark keys r → TsortStands keys over rows feeds → TsortStands keys over later (feeds ++ row_feed port r ∷ [])
+TsortStands-row keys over rows later m feeds port r zero pushed row_is mark_is stands = record {
   over_is = stands.over_is ∙ sym (ended-row 0 feeds port r);
-  rows_are = λ still. pushed ∙ ap (λ t. t ++ r ∷ []) (stands.rows_are still) ∙ sym (rows_of-row 0 feeds r) ∙ ap (λ p. rows_of 0 (feeds ++ row_feed p r ∷ [])) (sym zero);
+  rows_are = λ still. ap rows_in pushed ∙ in-more rows m ∙ ap₂ (λ t x. t ++ x ∷ []) (stands.rows_are still) row_is ∙ sym (rows_of-row 0 feeds r) ∙ ap (λ p. rows_of 0 (feeds ++ row_feed p r ∷ [])) (sym zero);
+  marked = subst (AreMarked keys) (sym pushed) (marked-more keys rows m stands.marked (mark_is ∙ ap (key_mark keys) (sym row_is)));
 }
 
-pub TsortStands-end : (rows : List Row) (feeds : List (Feed Row)) (port : ℕ) → port ≡ 0 → TsortStands true rows (feeds ++ end_feed port ∷ [])
-TsortStands-end rows feeds port zero = record {
+pub TsortStands-end : (keys : List Key) (feeds : List (Feed Row)) (port : ℕ) → port ≡ 0 → TsortStands keys true [] (feeds ++ end_feed port ∷ [])
+TsortStands-end keys feeds port zero = record {
   over_is = sym (ended-end 0 feeds) ∙ ap (λ p. ended 0 (feeds ++ end_feed p ∷ [])) (sym zero);
   rows_are = λ still. cc;
+  marked = tt;
 }
 
-pub tsort_open : (over : Bool) (rows : List Row) (feeds : List (Feed Row)) (port : ℕ) → TsortStands over rows feeds → one_wanted feeds port ≡ true → over ≡ false
-tsort_open over rows feeds port stands w = stands.over_is ∙ one_port_open feeds port w
+pub tsort_open : (keys : List Key) (over : Bool) (rows : List Marked) (feeds : List (Feed Row)) (port : ℕ) → TsortStands keys over rows feeds → one_wanted feeds port ≡ true → over ≡ false
+tsort_open keys over rows feeds port stands w = stands.over_is ∙ one_port_open feeds port w
 
 -- Remdup
 last_more : {X : Type 0} (xs : List X) (x : X) → last_one (xs ++ x ∷ []) ≡ x ∷ []

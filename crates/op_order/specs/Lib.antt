@@ -1,3 +1,4 @@
 pub mod Ordered
+pub mod Marks
 pub mod Laws
 pub mod AreStreams

@@ -9,6 +9,8 @@ use Rattle.op_base.specs.Columns.{Row}
 use Rattle.op_base.specs.Keyed.{arranged}
 use Rattle.op_base.specs.Lists.{ties, last_one}
 use Rattle.op_base.specs.Standing.{RowStream}
+use Rattle.op_order.specs.declared.marked.Marked.{Marked}
+use Rattle.op_order.specs.Marks.{AreMarked, rows_in}
 
 -- all rows arranged by the keys, at End
 abbrev pub tsort_stream : List Key → RowStream
@@ -26,10 +28,11 @@ run_row keys true before item = run_outs (same_key keys) last_outs before item
 abbrev pub remdup_stream : List Key → Bool → RowStream
 remdup_stream keys last = record { ports = 1; wants = one_wanted; gives = λ feeds f. run_row keys last (rows_of 0 feeds) f.item }
 
--- until its port ends a Tsort has all rows that it was fed
-pub record TsortStands (over : Bool) (rows : List Row) (feeds : List (Feed Row)) : Type 0 where
+-- until its port ends a Tsort has all rows that it was fed, with their marks
+pub record TsortStands (keys : List Key) (over : Bool) (rows : List Marked) (feeds : List (Feed Row)) : Type 0 where
   pub over_is : over ≡ ended 0 feeds
-  pub rows_are : over ≡ false → rows ≡ rows_of 0 feeds
+  pub rows_are : over ≡ false → rows_in rows ≡ rows_of 0 feeds
+  pub marked : AreMarked keys rows
 
 -- until its port ends a Remdup has the newest row
 pub record RemdupStands (over : Bool) (newest : Option Row) (feeds : List (Feed Row)) : Type 0 where

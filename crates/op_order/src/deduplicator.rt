@@ -97,7 +97,11 @@ impl Operator for Remdup {
     ghost is_stream = { λ s. remdup_is s.keys s.last };
 
     fn wants(&self) -> Want {
-        if self.over { Want::Nothing } else { Want::Port(0) }
+        if self.over {
+            Want::Nothing
+        } else {
+            Want::Port(0)
+        }
     }
 
     fn feed(&mut self, _port: u32, row: Row, emit: &mut Emit) -> Result<(), NoMemory> {

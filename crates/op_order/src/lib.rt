@@ -3,11 +3,10 @@
 
 mod compare;
 mod deduplicator;
+pub mod laws;
 mod marked;
 mod orders;
 mod sorter;
-
-pub mod laws;
 
 pub use deduplicator::Remdup;
 pub use orders::{remdup, tsort};

@@ -1,159 +1,118 @@
-ghost use Rattle.std.specs.Prelude.{◌≡◌, ◌≤◌, OnOk, take};
-ghost use Rattle.ds_value.specs.Values.{variant, number, letters};
-ghost use Rattle.ds_schema.specs.Rows.{at, row_cmp};
+ghost use Rattle.std.specs.Prelude.{◌≡◌, ◌≤◌, ◌<◌, ◌^◌, ◌∷◌, ◌++◌, [], OnOk, get_or};
+ghost use Rattle.ds_value.specs.Values.{variant};
+ghost use Rattle.ds_schema.specs.Rows.{at};
 ghost use Rattle.op_base.specs.Keyed.{arranged};
+ghost use Rattle.op_order.specs.Marks.{number_mark, next_digit, text_digits, content_mark, value_mark, key_mark, marked_cmp, AreMarked, rows_in};
 
 use crate::compare::{compare_rows, value_at};
 use ds_schema::{KeyList, Row};
 use ds_value::{NoMemory, Value};
 use std::cmp::Ordering;
-use std::marker::Model;
 
-/// A row with a mark of one of its columns, by which most comparisons are settled without
-/// a look into the row: the variant, the number, and the first bytes of the text.
+/// A row and a number for its first key, by which most comparisons are settled without a
+/// look into the row. A sort of many rows waits mostly for memory, so this is kept small.
 #[derive(Debug, Drop)]
 pub struct Marked {
-    lead: i128,
-    row: Row,
-    head: [u8; 8],
-    col: u32,
-    level: u8,
-    size: u8,
+    pub mark: u64,
+    pub row: Row,
 }
 
-impl Model for Marked {
-    ghost use Rattle.std.specs.Prelude.{List, ◌≡◌, ◌≤◌, take};
-    ghost use Rattle.ds_value.specs.declared.value.Value.{Value as Cell};
-    ghost use Rattle.ds_value.specs.Values.{variant, number, letters};
-    ghost use Rattle.ds_schema.specs.Rows.{at};
+/// The greatest number that is marked as it is, and one more.
+const EXACT: i128 = 1 << 60;
 
-    ghost Value = { List Cell };
-
-    ghost view = { λ m. m.row };
-
-    ghost invariant = { λ m. (m.level ≡ variant (at m.row m.col)) × (m.lead ≡ number (at m.row m.col)) × (m.size ≤ 8) × (take m.size m.head ≡ take 8 (letters (at m.row m.col))) };
+fn number_mark(n: i128) -> u64
+    ensures mark { result ≡ number_mark n }
+    ensures small { result < 2 ^ 61 }
+{
+    if n < -EXACT {
+        0
+    } else if n < EXACT {
+        (n + EXACT).unsigned_abs() as u64
+    } else {
+        (1 << 61) - 1
+    }
 }
 
-/// The place of a value's variant among the variants.
-fn level_of(value: &Value) -> u8
-    ensures { result ≡ variant value.now }
+/// The next digit of a text's mark.
+fn next_digit(before: u64, bytes: &[u8], at: usize) -> u64
+    ensures digit { result ≡ next_digit before (get_or bytes.now at 0) }
+    ensures small { result ≤ 255 }
+{
+    if before == 255 {
+        return 255;
+    }
+    match bytes.get(at) {
+        Some(byte) => u64::from(*byte),
+        None => 0,
+    }
+}
+
+fn text_mark(bytes: &[u8]) -> u64
+    ensures mark { result ≡ text_digits 7 0 0 bytes.now }
+    ensures small { result < 2 ^ 61 }
+{
+    let first = next_digit(0, bytes, 0);
+    let second = next_digit(first, bytes, 1);
+    let third = next_digit(second, bytes, 2);
+    let fourth = next_digit(third, bytes, 3);
+    let fifth = next_digit(fourth, bytes, 4);
+    let sixth = next_digit(fifth, bytes, 5);
+    let seventh = next_digit(sixth, bytes, 6);
+    let front = ((first * 256 + second) * 256 + third) * 256 + fourth;
+    ((front * 256 + fifth) * 256 + sixth) * 256 + seventh
+}
+
+fn value_mark(value: &Value) -> u64
+    ensures mark { result ≡ value_mark value.now }
+    ensures small { result < 2 ^ 64 }
 {
     match value {
         Value::Null => 0,
-        Value::Int(_) => 1,
-        Value::UInt(_) => 2,
-        Value::Dec(_) => 3,
-        Value::Text(_) => 4,
-        Value::Date(_) => 5,
+        Value::Int(n) => (1 << 61) + number_mark(i128::from(*n)),
+        Value::UInt(n) => (2 << 61) + number_mark(i128::from(*n)),
+        Value::Dec(n) => (3 << 61) + number_mark(*n),
+        Value::Text(text) => (4 << 61) + text_mark(text.as_slice()),
+        Value::Date(n) => (5 << 61) + number_mark(i128::from(*n)),
     }
 }
 
-/// What a number or a date holds, and 0 of what is none.
-fn number_of(value: &Value) -> i128
-    ensures { result ≡ number value.now }
-{
-    match value {
-        Value::Null => 0,
-        Value::Int(n) => i128::from(*n),
-        Value::UInt(n) => i128::from(*n),
-        Value::Dec(n) => *n,
-        Value::Text(_) => 0,
-        Value::Date(n) => i128::from(*n),
-    }
-}
-
-/// The first eight bytes, and how many there are.
-fn head_of(bytes: &[u8]) -> ([u8; 8], u8)
-    ensures size { result.1 ≤ 8 }
-    ensures head { take result.1 result.0 ≡ take 8 bytes.now }
-{
-    let mut head = [0u8; 8];
-    let size = bytes.len().min(8);
-    head[..size].copy_from_slice(&bytes[..size]);
-    (head, size as u8)
-}
-
-/// The first eight bytes of a text, none of what is no text.
-fn letters_of(value: &Value) -> ([u8; 8], u8)
-    ensures size { result.1 ≤ 8 }
-    ensures head { take result.1 result.0 ≡ take 8 (letters value.now) }
-{
-    match value {
-        Value::Null => head_of(&[]),
-        Value::Int(_) => head_of(&[]),
-        Value::UInt(_) => head_of(&[]),
-        Value::Dec(_) => head_of(&[]),
-        Value::Text(text) => head_of(text.as_slice()),
-        Value::Date(_) => head_of(&[]),
-    }
-}
-
-/// The variant and the number in a column.
-fn lead_at(row: &Row, col: usize) -> (u8, i128)
-    ensures level { result.0 ≡ variant (at row.now col) }
-    ensures lead { result.1 ≡ number (at row.now col) }
+fn key_mark(keys: &KeyList, row: &Row) -> u64
+    ensures { result ≡ key_mark keys.now row.now }
 {
     let null = Value::Null;
-    let value = value_at(row, col, &null);
-    (level_of(value), number_of(value))
-}
-
-/// The first eight bytes of the text in a column.
-fn head_at(row: &Row, col: usize) -> ([u8; 8], u8)
-    ensures size { result.1 ≤ 8 }
-    ensures head { take result.1 result.0 ≡ take 8 (letters (at row.now col)) }
-{
-    let null = Value::Null;
-    letters_of(value_at(row, col, &null))
-}
-
-impl Marked {
-    pub fn new(col: u32, row: Row) -> Marked
-        ensures { result ≡ row }
-    {
-        let (level, lead) = lead_at(&row, col as usize);
-        let (head, size) = head_at(&row, col as usize);
-        Marked {
-            lead,
-            row,
-            head,
-            col,
-            level,
-            size,
+    match keys.as_slice().first() {
+        None => 0,
+        Some(key) => {
+            let mark = value_mark(value_at(row, key.col as usize, &null));
+            if key.desc { u64::MAX - mark } else { mark }
         }
     }
+}
 
-    pub fn into_row(self) -> Row
-        ensures { result ≡ self }
-    {
-        self.row
-    }
+/// The row with its mark.
+pub fn mark_row(keys: &KeyList, row: Row) -> Marked
+    ensures row { result.row ≡ row }
+    ensures mark { result.mark ≡ key_mark keys.now row }
+{
+    let mark = key_mark(keys, &row);
+    Marked { mark, row }
 }
 
 /// The order of two rows by the keys. Most often the marks tell.
-pub fn compare_marked(keys: &KeyList, a: &Marked, b: &Marked) -> Ordering
-    ensures { result ≡ row_cmp keys.now a.now b.now }
+fn compare_marked(keys: &KeyList, a: &Marked, b: &Marked) -> Ordering
+    ensures { result ≡ marked_cmp keys.now a.now b.now }
 {
-    if let [first, ..] = keys.as_slice() {
-        if a.col == first.col && b.col == first.col {
-            let left = &a.head[..a.size as usize];
-            let right = &b.head[..b.size as usize];
-            let order = a
-                .level
-                .cmp(&b.level)
-                .then(a.lead.cmp(&b.lead))
-                .then(left.cmp(right));
-            if order != Ordering::Equal {
-                return if first.desc { order.reverse() } else { order };
-            }
-        }
+    let order = a.mark.cmp(&b.mark);
+    if order != Ordering::Equal {
+        return order;
     }
     compare_rows(keys, &a.row, &b.row)
 }
 
 /// Sorts by the keys; rows that tie keep their order.
 pub fn arrange(keys: &KeyList, rows: &mut Vec<Marked>) -> Result<(), NoMemory>
-    ensures ok { OnOk result (rows.new.items ≡ arranged keys.now rows.old.items) }
+    requires { AreMarked keys.now rows.old.items }
+    ensures ok { OnOk result (rows_in rows.new.items ≡ arranged keys.now (rows_in rows.old.items)) }
 {
     rows.sort_by(|a, b| compare_marked(keys, a, b))?;
     Ok(())

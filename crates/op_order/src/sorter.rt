@@ -2,8 +2,9 @@ ghost use Rattle.std.specs.Prelude.{◌≡◌, OnOk, OnErr, map, List, []};
 ghost use Rattle.streams.specs.Streams.{sends};
 ghost use Rattle.op_base.specs.Emits.{Adds};
 ghost use Rattle.op_order.specs.Ordered.{tsort_stream};
+ghost use Rattle.op_order.specs.Marks.{rows_in};
 
-use crate::marked::{Marked, arrange};
+use crate::marked::{Marked, arrange, mark_row};
 use ds_schema::{KeyList, Row};
 use ds_value::NoMemory;
 use op_base::{Emit, Operator, Want};
@@ -14,17 +15,16 @@ use std::mem;
 #[derive(Debug, Drop)]
 pub struct Tsort {
     keys: KeyList,
-    marked_col: u32,
     rows: Vec<Marked>,
     over: bool,
 }
 
 /// Sends each row.
 fn send_all(rows: Vec<Marked>, emit: &mut Emit) -> Result<(), NoMemory>
-    ensures { OnOk result (Adds emit.old emit.new (map (sends 0) rows.items)) }
+    ensures { OnOk result (Adds emit.old emit.new (map (sends 0) (rows_in rows.items))) }
 {
     for row in rows {
-        emit.send(0, row.into_row())?;
+        emit.send(0, row.row)?;
     }
     Ok(())
 }
@@ -34,13 +34,8 @@ impl Tsort {
         ensures stream { ⟦<Tsort as Operator>⟧.stream result ≡ tsort_stream keys }
         ensures stands { ⟦<Tsort as Operator>⟧.Stands result [] }
     {
-        let marked_col = match keys.as_slice().first() {
-            Some(key) => key.col,
-            None => 0,
-        };
         Tsort {
             keys,
-            marked_col,
             rows: Vec::new(alloc),
             over: false,
         }
@@ -56,16 +51,20 @@ impl Operator for Tsort {
 
     ghost suits = { λ s feeds. true };
 
-    ghost Stands = { λ s feeds. TsortStands s.over s.rows.items feeds };
+    ghost Stands = { λ s feeds. TsortStands s.keys s.over s.rows.items feeds };
 
     ghost is_stream = { λ s. tsort_is s.keys };
 
     fn wants(&self) -> Want {
-        if self.over { Want::Nothing } else { Want::Port(0) }
+        if self.over {
+            Want::Nothing
+        } else {
+            Want::Port(0)
+        }
     }
 
     fn feed(&mut self, _port: u32, row: Row, _emit: &mut Emit) -> Result<(), NoMemory> {
-        self.rows.push(Marked::new(self.marked_col, row))?;
+        self.rows.push(mark_row(&self.keys, row))?;
         Ok(())
     }
 
