@@ -193,7 +193,7 @@ unfolding until_closed
 closed_few one f zero x y ts rest h = cc
 closed_few one f (suc n) x y ts rest h =
     closed_by one (accept_at (codes "}") ts).0 n x y ts (accept_at (codes "}") ts).1 rest (accept_few (codes "}") ts)
-      (λ z vs e k. let a = f x z ts vs e in let b = closed_few one f n z y vs rest k in omega (arith, a, b)) h
+    (λ z vs e k. let a = f x z ts vs e in let b = closed_few one f n z y vs rest k in omega (arith, a, b)) h
 
 abbrev room : List Node → Lexeme × List Lexeme → Read Lexeme
 room nodes word = if nat_le 64 (length nodes) then refuse word.0 why.TooMany else Ok word

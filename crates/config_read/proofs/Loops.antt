@@ -54,7 +54,7 @@ same one zero m x (t ∷ ts) f b h k = absurd (omega arith)
 same one (suc n) zero x (t ∷ ts) f b h k = absurd (omega arith)
 same one (suc n) (suc m) x (t ∷ ts) f b h k =
     same_by one (accept_at (codes "}") (t ∷ ts)) n m x (t ∷ ts) (one x (t ∷ ts)) refl
-      (λ y rest e. let less = f x y (t ∷ ts) rest e in same one n m y rest f b (omega (arith, less)) (omega (arith, less)))
+    (λ y rest e. let less = f x y (t ∷ ts) rest e in same one n m y rest f b (omega (arith, less)) (omega (arith, less)))
 
 once : {A : Type 0} → (one : A → List Lexeme → Read A) (n : ℕ) (x : A) (ts : List Lexeme) → 1 ≤ n → until_closed one n x ts ≡ step (accept_at (codes "}") ts) x (one x ts) (until_closed one (n - 1))
 unfolding until_closed

@@ -52,7 +52,10 @@ pub fn named0(alloc: Global, token: Lexeme<'_>) -> Result<Name0, Stop<ConfigWhy>
 fn has_node(nodes: &Items<Node>, name: &[u8]) -> bool
     ensures { result ≡ has_node nodes.now name.now }
 {
-    nodes.as_slice().iter().any(|node| node.name.as_slice() == name)
+    nodes
+        .as_slice()
+        .iter()
+        .any(|node| node.name.as_slice() == name)
 }
 
 /// The name of a further node.
