@@ -1,0 +1,13 @@
+//! Reading a configuration.
+#![tactic(auto)]
+
+mod config;
+mod entry;
+mod fault;
+mod node;
+mod quoted;
+mod whole;
+
+pub use config::{Config, Node, default_nodes, is_default};
+pub use fault::{ConfigFault, ConfigWhy};
+pub use whole::read_config;
