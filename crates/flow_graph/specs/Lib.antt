@@ -1,3 +1,4 @@
+pub mod Charts
 pub mod Columns
 pub mod Destinations
 pub mod Forms

@@ -5,12 +5,14 @@ mod columns;
 mod flow;
 pub mod laws;
 mod op_kind;
+mod parts;
 mod place;
 mod route;
 mod state;
 
 pub use columns::ColSet;
 pub use flow::{Flag, Flow, LinkSpec, Mark, Method, OpSpec};
+pub use parts::{OpParts, Stored};
 pub use op_kind::{AggSpec, OpKind, SetSpec};
 pub use place::Place;
 pub use route::{Choice, Route};

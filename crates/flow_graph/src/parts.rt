@@ -1,0 +1,21 @@
+use crate::Place;
+use ds_schema::{KeyList, Schema};
+use ds_value::{Items, Name};
+
+/// What the shape of a flow says of an operator: a key list for each input, where it has a key;
+/// and the columns of the sets of a transform, the kept columns of a modify, the columns of a
+/// group's results without its counts, or the value columns of a changecapture.
+#[derive(Debug, Drop)]
+pub struct OpParts {
+    pub keys: Items<KeyList>,
+    pub cols: Items<u32>,
+}
+
+/// What is known of a stored data set: its place, where its rows lie at one, and its partitions.
+#[derive(Debug, Drop)]
+pub struct Stored {
+    pub name: Name,
+    pub schema: Schema,
+    pub place: Option<Place>,
+    pub partitions: u32,
+}
