@@ -1,6 +1,6 @@
-use Rattle.std.proofs.Common.{◌≡◌, ◌≤◌, ◌<◌, ◌+◌, ◌-◌, ◌^◌, ◌++◌, ◌∷◌, [], ℕ, zero, suc, List, Bool, true, false, refl, sym, ap, ◌∙◌, arith, length, map, append_assoc, append-nil, length-append}
-use Rattle.std.specs.List.{AllByRecursion, flat_map}
-use Rattle.ds_text.specs.Lines.{Reading, split_within, with_before, with_line, before, shown, IsFree, written_lines, lines_of, LinesAgain}
+use Rattle.std.proofs.Common.{◌≡◌, ◌≤◌, ◌+◌, ◌-◌, ◌^◌, ◌++◌, ◌∷◌, [], ℕ, suc, List, false, refl, ap, ◌∙◌, arith, length, map, append_assoc, append-nil, length-append}
+use Rattle.std.specs.List.{AllByRecursion}
+use Rattle.ds_text.specs.Lines.{Reading, split_within, with_before, with_line, shown, IsFree, written_lines, LinesAgain}
 use Rattle.ds_text.proofs.PieceLemmas.{split_piece}
 
 split_again : (room : ℕ) (lines : List (List ℕ)) → AllByRecursion IsFree lines → length (written_lines lines) ≤ room → split_within room (written_lines lines) ≡ record { lines = lines; too_long = false }

@@ -1,5 +1,5 @@
 -- A line of columns spells one row at most, which fits, and what is written spells the row.
-use Rattle.std.proofs.Common.{◌≡◌, ◌≤◌, ◌<◌, ◌+◌, ◌-◌, ◌++◌, ◌∷◌, [], ◌==◌, ◌||◌, ◌&&◌, not, ℕ, zero, suc, List, Bool, true, false, cond, refl, sym, ap, ◌∙◌, arith, length, sum, take, drop, replicate, nat_lt, length-append, length-drop, append-nil, subst}
+use Rattle.std.proofs.Common.{◌≡◌, ◌≤◌, ◌+◌, ◌-◌, ◌++◌, ◌∷◌, [], ◌&&◌, not, ℕ, zero, suc, List, Bool, true, false, cond, refl, sym, ap, ◌∙◌, arith, length, sum, take, drop, replicate, nat_lt, length-append, length-drop, subst}
 use Rattle.std.specs.List.{AllByRecursion}
 use Rattle.std.proofs.lemmas.List.{take_at, drop_at, nil_from_length, length-replicate}
 use Rattle.std.proofs.lemmas.List.Folds.{list_all-append}
@@ -8,7 +8,7 @@ use Rattle.std.proofs.lemmas.Bool.{eqb-true, ltb-false, ne_eqb}
 use Rattle.ds_value.specs.declared.kind.Kind.{Kind}
 use Rattle.ds_value.specs.declared.kind.Kind.TheVariants as kind
 use Rattle.ds_value.specs.declared.value.Value.{Value}
-use Rattle.ds_value.specs.declared.value.Value.TheVariants.{Null, Int, UInt, Dec, Text, Date}
+use Rattle.ds_value.specs.declared.value.Value.TheVariants.{Null, Text}
 use Rattle.ds_value.specs.Kinds.{IsKind, fits_kind}
 use Rattle.ds_value.specs.Spellings.{Spells, written, filled}
 use Rattle.ds_value.proofs.Spellings.{written_spells}
@@ -16,11 +16,11 @@ use Rattle.ds_schema.specs.declared.schema.Field.{Field}
 use Rattle.ds_schema.specs.Schemas.{IsField, fits_field, row_fits}
 use Rattle.ds_text.specs.Columns.{is_space, is_blank, is_text, trimmed, without_left_spaces, without_right_spaces}
 use Rattle.ds_text.specs.Records.{NullOr, MeansColumn, SpellsColumns, SpellsFixed, is_null, is_wide, any_wide, written_column, written_columns}
-use Rattle.ds_text.specs.RecordLaws.{ends_with, is_sized, Stays, EachStays}
+use Rattle.ds_text.specs.RecordLaws.{ends_with, Stays, EachStays}
 use Rattle.ds_text.proofs.FieldWriting.{and_parts, kind_fits}
 use Rattle.ds_text.proofs.FieldLaws.{both, none_and, or_parts, null_value, null_or_fits, ends_append}
 use Rattle.ds_text.proofs.ColumnRows.{SpellsShort, one_column}
-use Rattle.ds_text.proofs.Spaces.{blank_spaces, blank_filled, right_filled, right_kept, not_blank, filled_again, BeginsSolid, left_dropped}
+use Rattle.ds_text.proofs.Spaces.{blank_spaces, blank_filled, right_filled, right_kept, filled_again, BeginsSolid, left_dropped}
 use Rattle.ds_text.proofs.Solid.{IsMarked, IsSolid, solid}
 
 -- one row
@@ -81,12 +81,12 @@ trimmed_filled k xs n = ap (λ l. cond (is_text k) l (without_left_spaces l)) (r
 less_filled : (f : Field) (xs : List ℕ) (n : ℕ) (v : Value) → MeansColumn f (xs ++ replicate n 32) v → MeansColumn f xs v
 less_filled f xs n v m =
     subst (λ y. NullOr (f.nullable && y) f.kind (trimmed f.kind xs) v) (blank_filled xs n)
-      (subst (λ l. NullOr (f.nullable && is_blank (xs ++ replicate n 32)) f.kind l v) (trimmed_filled f.kind xs n) m)
+    (subst (λ l. NullOr (f.nullable && is_blank (xs ++ replicate n 32)) f.kind l v) (trimmed_filled f.kind xs n) m)
 
 more_filled : (f : Field) (xs : List ℕ) (n : ℕ) (v : Value) → MeansColumn f xs v → MeansColumn f (xs ++ replicate n 32) v
 more_filled f xs n v m =
     subst (λ y. NullOr (f.nullable && y) f.kind (trimmed f.kind (xs ++ replicate n 32)) v) (sym (blank_filled xs n))
-      (subst (λ l. NullOr (f.nullable && is_blank xs) f.kind l v) (sym (trimmed_filled f.kind xs n)) m)
+    (subst (λ l. NullOr (f.nullable && is_blank xs) f.kind l v) (sym (trimmed_filled f.kind xs n)) m)
 
 -- a line spells what it spells once it is filled
 filled_spells : (fs : List Field) (ws line : List ℕ) (vs : List Value) (n : ℕ) → SpellsShort fs ws line vs → SpellsColumns fs ws (line ++ replicate n 32) vs
@@ -98,9 +98,10 @@ filled_spells (f ∷ fs) [] line [] n s = absurd s
 filled_spells (f ∷ fs) [] line (v ∷ vs) n s = absurd s
 filled_spells (f ∷ fs) (w ∷ ws) line [] n s = absurd s
 filled_spells (f ∷ fs) (w ∷ ws) line (v ∷ vs) n s =
-    let c = cut w line n in
-    (subst (λ l. MeansColumn f l v) (sym c.front) (more_filled f (take w line) c.front_spaces v s.0),
-     subst (λ l. SpellsColumns fs ws l vs) (sym c.back) (filled_spells fs ws (drop w line) vs c.back_spaces s.1))
+    let c = cut w line n in (
+      subst (λ l. MeansColumn f l v) (sym c.front) (more_filled f (take w line) c.front_spaces v s.0),
+      subst (λ l. SpellsColumns fs ws l vs) (sym c.back) (filled_spells fs ws (drop w line) vs c.back_spaces s.1),
+    )
 
 spells_filled : (fs : List Field) (ws line : List ℕ) (vs : List Value) (n : ℕ) → length line ≤ sum ws → SpellsColumns fs ws (line ++ replicate n 32) vs → SpellsShort fs ws line vs
 spells_filled [] [] line [] n h s = nil_from_length line (omega arith)
@@ -111,9 +112,10 @@ spells_filled (f ∷ fs) [] line [] n h s = absurd s
 spells_filled (f ∷ fs) [] line (v ∷ vs) n h s = absurd s
 spells_filled (f ∷ fs) (w ∷ ws) line [] n h s = absurd s
 spells_filled (f ∷ fs) (w ∷ ws) line (v ∷ vs) n h s =
-    let c = cut w line n in
-    (less_filled f (take w line) c.front_spaces v (subst (λ l. MeansColumn f l v) c.front s.0),
-     spells_filled fs ws (drop w line) vs c.back_spaces (omega (arith, length-drop w line, sum_more w ws)) (subst (λ l. SpellsColumns fs ws l vs) c.back s.1))
+    let c = cut w line n in (
+      less_filled f (take w line) c.front_spaces v (subst (λ l. MeansColumn f l v) c.front s.0),
+      spells_filled fs ws (drop w line) vs c.back_spaces (omega (arith, length-drop w line, sum_more w ws)) (subst (λ l. SpellsColumns fs ws l vs) c.back s.1),
+    )
 
 short_length : (fs : List Field) (ws line : List ℕ) (vs : List Value) → SpellsShort fs ws line vs → length line ≤ sum ws
 short_length [] [] line [] s = let n : length line ≡ 0 = ap length s in omega (arith, n)
@@ -202,7 +204,7 @@ text_means kind.Date nullable w v t k fits stays = cc
 text_means (kind.Text max fixed) nullable w (Text b) t k fits stays =
     let full : (nullable && is_blank (filled w b)) ≡ false = full_by nullable (is_blank (filled w b)) (λ e. blank_filled b (w - length b) ∙ stays.1 e) in
     subst (λ y. NullOr y (kind.Text max fixed) (without_right_spaces (filled w b)) (Text b)) (sym full)
-      (subst (λ l. Spells (kind.Text max fixed) l (Text b)) (sym (right_filled b (w - length b))) (text_by max fixed b k fits stays.0))
+    (subst (λ l. Spells (kind.Text max fixed) l (Text b)) (sym (right_filled b (w - length b))) (text_by max fixed b k fits stays.0))
 text_means (kind.Text max fixed) nullable w v t k fits stays = cc
 
 means_by : (k : Kind) (nullable text : Bool) (w : ℕ) (v : Value) → is_text k ≡ text → IsKind k → fits_kind k v ≡ true → Stays k nullable v
@@ -242,7 +244,8 @@ columns_again (f ∷ fs) (w ∷ ws) (v ∷ vs) n k h narrow stays =
     let size : length column ≡ w = column_length f w v (is_null v) refl narrows.0 in
     record {
       full = omega (arith, length-append column rest, size, more.full, sum_more w ws);
-      spells =
-        (subst (λ l. MeansColumn f l v) (sym (take_at column rest w size)) (column_means f w v (is_null v) refl k.0.1 fits.0 stays.0),
-         subst (λ l. SpellsColumns fs ws l vs) (sym (drop_at column rest w size)) more.spells);
+      spells = (
+        subst (λ l. MeansColumn f l v) (sym (take_at column rest w size)) (column_means f w v (is_null v) refl k.0.1 fits.0 stays.0),
+        subst (λ l. SpellsColumns fs ws l vs) (sym (drop_at column rest w size)) more.spells,
+      );
     }

@@ -1,5 +1,5 @@
 -- A line of columns is read column by column.
-use Rattle.std.proofs.Common.{◌≡◌, ◌≤◌, ◌<◌, ◌+◌, ◌++◌, ◌∷◌, [], ◌&&◌, ◌==◌, ℕ, List, Bool, true, false, refl, sym, ap, ◌∙◌, arith, length, take, drop, subst}
+use Rattle.std.proofs.Common.{◌≡◌, ◌≤◌, ◌+◌, ◌++◌, ◌∷◌, [], ◌&&◌, ◌==◌, ℕ, List, true, false, sym, ap, length, take, drop, subst}
 use Rattle.std.proofs.lemmas.Bool.{eqb-true}
 use Rattle.std.proofs.lemmas.List.{drop_all, nil_from_length}
 use Rattle.ds_value.specs.declared.value.Value.{Value}
@@ -37,9 +37,9 @@ pub more_columns : (fields : List Field) (widths line rest : List ℕ) (i w : �
     → MeansColumn f (take w rest) v → ReadsColumns fields widths line i rest row → ReadsColumns fields widths line (i + 1) (drop w rest) (row ++ v ∷ [])
 more_columns fields widths line rest i w row v f e k m r =
     next _ _ _ row v
-      (subst (λ l. IsNext (SpellsShort l (drop i widths) rest) (SpellsShort (drop (i + 1) fields) (drop (i + 1) widths) (drop w rest)) v) (sym e)
-        (subst (λ l. IsNext (SpellsShort (f ∷ drop (i + 1) fields) l rest) (SpellsShort (drop (i + 1) fields) (drop (i + 1) widths) (drop w rest)) v) (sym k)
-          (next_column f (drop (i + 1) fields) w (drop (i + 1) widths) rest v m))) r
+    (subst (λ l. IsNext (SpellsShort l (drop i widths) rest) (SpellsShort (drop (i + 1) fields) (drop (i + 1) widths) (drop w rest)) v) (sym e)
+    (subst (λ l. IsNext (SpellsShort (f ∷ drop (i + 1) fields) l rest) (SpellsShort (drop (i + 1) fields) (drop (i + 1) widths) (drop w rest)) v) (sym k)
+    (next_column f (drop (i + 1) fields) w (drop (i + 1) widths) rest v m))) r
 
 wrong_column : (f : Field) (fs : List Field) (w : ℕ) (ws : List ℕ) (line : List ℕ) (vs : List Value) → ((v : Value) → MeansColumn f (take w line) v → ⊥) → SpellsShort (f ∷ fs) (w ∷ ws) line vs → ⊥
 wrong_column f fs w ws line [] never s = s
@@ -49,7 +49,7 @@ pub no_column : (fields : List Field) (widths line rest : List ℕ) (i w : ℕ) 
     → ((v : Value) → MeansColumn f (take w rest) v → ⊥) → ReadsColumns fields widths line i rest row → (us : List Value) → SpellsShort fields widths line us → ⊥
 no_column fields widths line rest i w row f e k never r =
     none _ _ row (λ vs s. wrong_column f (drop (i + 1) fields) w (drop (i + 1) widths) rest vs never
-      (subst (λ l. SpellsShort (f ∷ drop (i + 1) fields) l rest vs) k (subst (λ l. SpellsShort l (drop i widths) rest vs) e s))) r
+    (subst (λ l. SpellsShort (f ∷ drop (i + 1) fields) l rest vs) k (subst (λ l. SpellsShort l (drop i widths) rest vs) e s))) r
 
 at_end : (rest : List ℕ) (vs : List Value) → SpellsShort [] [] rest vs → rest ≡ []
 at_end rest [] s = s
@@ -60,9 +60,9 @@ pub longer : (fields : List Field) (widths line rest : List ℕ) (i : ℕ) (row 
     → (us : List Value) → SpellsShort fields widths line us → ⊥
 longer fields widths line rest i row h k some r =
     none _ _ row (λ vs s.
-      let e : rest ≡ [] = at_end rest vs (subst (λ l. SpellsShort [] l rest vs) (drop_all i widths k) (subst (λ l. SpellsShort l (drop i widths) rest vs) (drop_all i fields h) s)) in
-      let none_left : (length rest == 0) ≡ true = ap (λ l. length l == 0) e in
-      cc) r
+    let e : rest ≡ [] = at_end rest vs (subst (λ l. SpellsShort [] l rest vs) (drop_all i widths k) (subst (λ l. SpellsShort l (drop i widths) rest vs) (drop_all i fields h) s)) in
+    let none_left : (length rest == 0) ≡ true = ap (λ l. length l == 0) e in
+    cc) r
 
 pub whole_line : (fields : List Field) (widths line rest : List ℕ) (i : ℕ) (row : List Value) → length fields ≤ i → length widths ≤ i → (length rest == 0) ≡ true → ReadsColumns fields widths line i rest row
     → SpellsShort fields widths line row

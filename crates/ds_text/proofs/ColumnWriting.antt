@@ -1,5 +1,5 @@
 -- Columns are written one after the other.
-use Rattle.std.proofs.Common.{◌≡◌, ◌≤◌, ◌<◌, ◌+◌, ◌++◌, ◌∷◌, [], ◌||◌, ℕ, List, Bool, true, false, refl, sym, ap, ◌∙◌, arith, length, drop, append_assoc, append-nil}
+use Rattle.std.proofs.Common.{◌≡◌, ◌≤◌, ◌+◌, ◌++◌, ◌∷◌, [], ◌||◌, ℕ, List, Bool, true, false, refl, sym, ap, ◌∙◌, length, drop, append_assoc, append-nil}
 use Rattle.std.proofs.lemmas.List.{drop_all}
 use Rattle.ds_value.specs.declared.value.Value.{Value}
 use Rattle.ds_schema.specs.declared.schema.Field.{Field}

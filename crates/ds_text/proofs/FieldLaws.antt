@@ -1,5 +1,5 @@
 -- A delimited line spells one row at most, which fits, and what is written spells the row.
-use Rattle.std.proofs.Common.{◌≡◌, ◌≢◌, ◌≤◌, ◌<◌, ◌+◌, ◌++◌, ◌∷◌, [], ◌==◌, ◌||◌, ◌&&◌, not, ℕ, zero, suc, List, Bool, true, false, cond, Option, Some, None, refl, sym, ap, ◌∙◌, arith, length, append_assoc, append-nil, subst}
+use Rattle.std.proofs.Common.{◌≡◌, ◌≢◌, ◌≤◌, ◌++◌, ◌∷◌, [], ◌==◌, ◌||◌, ◌&&◌, not, ℕ, List, Bool, true, false, Option, Some, None, refl, sym, ap, ◌∙◌, arith, length, append-nil, subst}
 use Rattle.std.specs.List.{AllByRecursion, list_any}
 use Rattle.std.proofs.lemmas.Bool.{ne_eqb}
 use Rattle.ds_value.specs.declared.kind.Kind.{Kind}
@@ -7,14 +7,14 @@ use Rattle.ds_value.specs.declared.kind.Kind.TheVariants as kind
 use Rattle.ds_value.specs.declared.value.Value.{Value}
 use Rattle.ds_value.specs.declared.value.Value.TheVariants.{Null, Int, UInt, Dec, Text, Date}
 use Rattle.ds_value.specs.Kinds.{IsKind, fits_kind}
-use Rattle.ds_value.specs.Spellings.{Spells, written}
+use Rattle.ds_value.specs.Spellings.{written}
 use Rattle.ds_value.proofs.Spellings.{written_spells}
 use Rattle.ds_schema.specs.declared.schema.Field.{Field}
 use Rattle.ds_schema.specs.Schemas.{IsField, fits_field, row_fits}
 use Rattle.ds_text.specs.Cells.{Cell, text_of, cell_text, doubled, BeginsPlain, IsText, IsCell, behind}
 use Rattle.ds_text.specs.Records.{NullOr, Means, is_null_cell, is_empty, is_null, SpellsFields, needs_quotes, written_field, written_more, written_fields}
 use Rattle.ds_text.specs.RecordLaws.{ends_with}
-use Rattle.ds_text.specs.Reading.{Front, after}
+use Rattle.ds_text.specs.Reading.{after}
 use Rattle.ds_text.proofs.FieldRows.{parted, one_null_or}
 use Rattle.ds_text.proofs.FieldWriting.{and_parts, kind_fits}
 

@@ -4,7 +4,6 @@ use Rattle.std.proofs.lemmas.List.{drop_all, drop_more}
 use Rattle.std.proofs.lemmas.Bool.{ltb-true, ltb-false}
 use Rattle.ds_value.specs.declared.value.Value.{Value}
 use Rattle.ds_value.specs.declared.kind.Kind.{Kind}
-use Rattle.ds_value.specs.Spellings.{Spells}
 use Rattle.ds_value.proofs.Spellings.{spells_once}
 use Rattle.ds_schema.specs.declared.schema.Field.{Field}
 use Rattle.ds_text.specs.Cells.{text_of, behind}
@@ -68,10 +67,10 @@ next_field d f fs line n v h at =
     record {
       goes_on = λ vs s. joined d f fs line front v vs at.1 at.4 (subst (λ l. SpellsFields d fs l vs) (sym left) s);
       back = λ ws s.
-        let p = parted d f fs line ws h s in
-        let same : p.front ≡ front = cc (sym p.is ∙ at.1) in
-        let value : p.value ≡ v = one_value f p.front.quoted p.front.bytes p.value v p.means (subst (λ x. Means f x.quoted x.bytes v) (sym same) at.4) in
-        (p.values, p.ws_is ∙ ap (λ x. x ∷ p.values) value, subst (λ l. SpellsFields d fs l p.values) (ap (λ x. after x.rest) same ∙ left) p.more);
+          let p = parted d f fs line ws h s in
+          let same : p.front ≡ front = cc (sym p.is ∙ at.1) in
+          let value : p.value ≡ v = one_value f p.front.quoted p.front.bytes p.value v p.means (subst (λ x. Means f x.quoted x.bytes v) (sym same) at.4) in
+          (p.values, p.ws_is ∙ ap (λ x. x ∷ p.values) value, subst (λ l. SpellsFields d fs l p.values) (ap (λ x. after x.rest) same ∙ left) p.more);
     }
 
 abbrev pub ReadsFields : ℕ → List Field → List ℕ → ℕ → Option (List ℕ) → List Value → Type 0

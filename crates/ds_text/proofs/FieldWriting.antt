@@ -1,15 +1,12 @@
 -- Fields are written one after the other.
-use Rattle.std.proofs.Common.{◌≡◌, ◌≤◌, ◌<◌, ◌+◌, ◌++◌, ◌∷◌, [], ◌==◌, ◌&&◌, ℕ, zero, suc, List, Bool, true, false, cond, refl, sym, ap, ◌∙◌, arith, length, drop, take, get_or, append_assoc, append-nil}
-use Rattle.std.specs.List.{AllByRecursion}
+use Rattle.std.proofs.Common.{◌≡◌, ◌<◌, ◌+◌, ◌++◌, ◌∷◌, [], ◌==◌, ◌&&◌, ℕ, zero, suc, List, Bool, true, false, cond, refl, sym, ap, ◌∙◌, arith, length, drop, get_or, append_assoc}
 use Rattle.std.proofs.lemmas.Bool.{ne_eqb}
 use Rattle.ds_value.specs.declared.value.Value.{Value}
 use Rattle.ds_value.specs.declared.value.Value.TheVariants.{Null, Int, UInt, Dec, Text, Date}
-use Rattle.ds_value.specs.Kinds.{IsKind, fits_kind}
-use Rattle.ds_value.specs.Spellings.{written}
+use Rattle.ds_value.specs.Kinds.{fits_kind}
 use Rattle.ds_schema.specs.declared.schema.Field.{Field}
-use Rattle.ds_schema.specs.Schemas.{IsField, fits_field, row_fits}
-use Rattle.ds_text.specs.Cells.{text_of}
-use Rattle.ds_text.specs.Records.{is_null, needs_quotes, written_field, written_more, written_fields}
+use Rattle.ds_schema.specs.Schemas.{fits_field, row_fits}
+use Rattle.ds_text.specs.Records.{is_null, written_field, written_more, written_fields}
 
 pub and_parts : (x y : Bool) → (x && y) ≡ true → (x ≡ true) × (y ≡ true)
 and_parts true y h = (refl, h)
@@ -61,5 +58,5 @@ field_step d i fs vs f v into apart new whole e h p n w =
     let text = written_field d f v in
     let gap : List ℕ = cond (i == 0) [] (d ∷ []) in
     let same : written_from d i (drop i fs) (drop i vs) ≡ gap ++ (text ++ rest) =
-      ap (λ l. written_from d i l (drop i vs)) e ∙ (ap (λ l. written_from d i (f ∷ drop (i + 1) fs) l) h ∙ more_from d i f v (drop (i + 1) fs) (drop (i + 1) vs)) in
+    ap (λ l. written_from d i l (drop i vs)) e ∙ (ap (λ l. written_from d i (f ∷ drop (i + 1) fs) l) h ∙ more_from d i f v (drop (i + 1) fs) (drop (i + 1) vs)) in
     ap (λ l. l ++ rest) (n ∙ ap (λ l. l ++ text) p) ∙ (append_assoc (into ++ gap) text rest ∙ (append_assoc into gap (text ++ rest) ∙ (ap (λ l. into ++ l) (sym same) ∙ w)))

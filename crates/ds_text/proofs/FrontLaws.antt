@@ -1,9 +1,9 @@
 -- The reading of a field agrees with its spelling.
-use Rattle.std.proofs.Common.{◌≡◌, ◌≤◌, ◌<◌, ◌+◌, ◌-◌, ◌++◌, ◌∷◌, [], ◌==◌, ◌||◌, ◌&&◌, not, ℕ, zero, suc, List, Bool, true, false, Option, Some, None, refl, sym, ap, ◌∙◌, arith, length, take, drop, append_assoc, append-nil, length-append, cond, subst}
+use Rattle.std.proofs.Common.{◌≡◌, ◌+◌, ◌++◌, ◌∷◌, [], ◌==◌, not, ℕ, zero, suc, List, Bool, true, false, Option, Some, None, refl, sym, ap, ◌∙◌, arith, length, take, drop, append_assoc, cond, subst}
 use Rattle.std.specs.List.{AllByRecursion}
 use Rattle.std.proofs.lemmas.List.{take_at, drop_at, take-append-drop}
 use Rattle.std.proofs.lemmas.Bool.{eqb-true, eq-eqb}
-use Rattle.ds_text.specs.Cells.{Cell, doubled, text_of, cell_text, BeginsPlain, IsText, IsCell, behind}
+use Rattle.ds_text.specs.Cells.{doubled, text_of, BeginsPlain, IsText, behind}
 use Rattle.ds_text.specs.Reading.{Quoted, unquoted, with_front, plain_len, plain_front, Front, front_of, closed, ends_field, after}
 
 begun : (x : ℕ) (r : Option Quoted) (q : Quoted) → with_front (x ∷ []) r ≡ Some q → (p : Quoted) × (r ≡ Some p) × (q ≡ record { bytes = x ∷ p.bytes; rest = p.rest })
@@ -58,7 +58,7 @@ plain_len_again d (b ∷ bytes) rest h e = rw h.0 (plain_more (plain_len_again d
 free_by : (y : Bool) (d b : ℕ) (line : List ℕ) → (b == d) ≡ y → AllByRecursion (λ b. (b == d) ≡ false) (take (plain_len d line) line) × (ends_field d (drop (plain_len d line) line) ≡ true)
     → AllByRecursion (λ b. (b == d) ≡ false) (take (cond (not y) (1 + plain_len d line) 0) (b ∷ line)) × (ends_field d (drop (cond (not y) (1 + plain_len d line) 0) (b ∷ line)) ≡ true)
 free_by true d b line h e = (tt, h)
-free_by false d b line h e = let k : 1 + plain_len d line ≡ suc (plain_len d line) = omega arith in rw k (( h, e.0), e.1)
+free_by false d b line h e = let k : 1 + plain_len d line ≡ suc (plain_len d line) = omega arith in rw k ((h, e.0), e.1)
 
 pub plain_free : (d : ℕ) (line : List ℕ) → AllByRecursion (λ b. (b == d) ≡ false) (take (plain_len d line) line) × (ends_field d (drop (plain_len d line) line) ≡ true)
 plain_free d [] = (tt, refl)

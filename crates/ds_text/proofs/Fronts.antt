@@ -1,9 +1,9 @@
-use Rattle.std.proofs.Common.{◌≡◌, ◌≤◌, ◌<◌, ◌+◌, ◌-◌, ◌++◌, ◌∷◌, [], ◌==◌, ◌||◌, ◌&&◌, not, ℕ, zero, suc, List, Bool, true, false, Option, Some, None, refl, sym, ap, ◌∙◌, arith, length, take, drop, append_assoc, append-nil, length-append, cond, subst}
+use Rattle.std.proofs.Common.{◌≡◌, ◌≤◌, ◌+◌, ◌∷◌, [], ℕ, suc, List, true, false, Some, None, refl, sym, ap, ◌∙◌, arith, length, take, drop, subst}
 use Rattle.ds_value.specs.declared.value.Value.{Value}
 use Rattle.ds_schema.specs.declared.schema.Field.{Field}
 use Rattle.ds_text.specs.Cells.{BeginsPlain}
 use Rattle.ds_text.specs.Records.{Means}
-use Rattle.ds_text.specs.Reading.{Quoted, unquoted, plain_len, plain_front, Front, front_of, closed, ends_field, FieldAt, NoField}
+use Rattle.ds_text.specs.Reading.{unquoted, plain_len, plain_front, Front, front_of, closed, ends_field, FieldAt, NoField}
 
 pub plain_is : (d : ℕ) (line : List ℕ) → BeginsPlain line → front_of d line ≡ Some (plain_front d line)
 plain_is d [] h = refl

@@ -24,9 +24,9 @@ pub next : (whole now later : List Value → Type 0) (row : List Value) (v : Val
 next whole now later row v n r = record {
   goes_on = λ vs s. subst whole (sym (append_assoc row (v ∷ []) vs)) (r.goes_on (v ∷ vs) (n.goes_on vs s));
   back = λ ws s.
-    let b = r.back ws s in
-    let m = n.back b.0 b.2 in
-    (m.0, b.1 ∙ (ap (λ l. row ++ l) m.1 ∙ sym (append_assoc row (v ∷ []) m.0)), m.2);
+      let b = r.back ws s in
+      let m = n.back b.0 b.2 in
+      (m.0, b.1 ∙ (ap (λ l. row ++ l) m.1 ∙ sym (append_assoc row (v ∷ []) m.0)), m.2);
 }
 
 pub none : (whole now : List Value → Type 0) (row : List Value) → ((vs : List Value) → now vs → ⊥) → ReadsSoFar whole now row → (ws : List Value) → whole ws → ⊥

@@ -1,10 +1,9 @@
-use Rattle.std.proofs.Common.{◌≡◌, ◌≤◌, ◌<◌, ◌+◌, ◌-◌, ◌++◌, ◌∷◌, [], ◌==◌, ℕ, zero, suc, List, Bool, true, false, refl, sym, ap, ◌∙◌, arith, length, take, drop, get_or, map, min, append_assoc, append-nil, length-take, length-drop, length-append, cond, Option, Some, None, IfSome, IfNone, subst}
+use Rattle.std.proofs.Common.{◌≡◌, ◌≤◌, ◌<◌, ◌+◌, ◌-◌, ◌++◌, ◌∷◌, [], ◌==◌, ℕ, zero, suc, List, Bool, true, false, refl, sym, ap, ◌∙◌, arith, length, take, drop, get_or, min, append_assoc, append-nil, length-take, length-drop, cond, Option, Some, None, IfSome, IfNone, subst}
 use Rattle.memchr.specs.Find.{IsFirstByte, is_byte}
 use Rattle.std.proofs.lemmas.Bool.{eqb-true}
-use Rattle.std.specs.List.{AllByRecursion}
 use Rattle.std.proofs.lemmas.List.{take_all, take-take, take-append-le, take_min, drop_more, take-append-drop, drop-take, drop-drop}
 use Rattle.std.proofs.Math.Seq.{take-append-add}
-use Rattle.ds_text.specs.Lines.{Reading, split_within, before, with_before, with_line, without_return, IsFree}
+use Rattle.ds_text.specs.Lines.{Reading, split_within, before, with_before, without_return, IsFree}
 use Rattle.ds_text.specs.Pieces.{EndsAt, kept}
 
 pub open_front : (n : ℕ) (bytes : List ℕ) → ((k : ℕ) → k < n → (get_or bytes k 0 == 10) ≡ false) → IsFree (take n bytes)

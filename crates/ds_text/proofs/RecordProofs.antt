@@ -1,5 +1,5 @@
 -- The laws of records in both forms.
-use Rattle.std.proofs.Common.{◌≡◌, ◌≢◌, ◌≤◌, ◌<◌, ◌-◌, ◌++◌, ◌∷◌, [], ◌==◌, ◌||◌, ℕ, zero, suc, List, Bool, true, false, cond, map, refl, sym, ap, ◌∙◌, arith, length, sum, take, replicate, append-nil, subst}
+use Rattle.std.proofs.Common.{◌≡◌, ◌≤◌, ◌-◌, ◌++◌, ◌∷◌, [], ◌==◌, ℕ, zero, suc, List, Bool, true, false, cond, map, refl, sym, ap, ◌∙◌, arith, length, sum, take, replicate, append-nil, subst}
 use Rattle.std.specs.List.{AllByRecursion}
 use Rattle.std.proofs.lemmas.Bool.{ne_eqb}
 use Rattle.std.proofs.lemmas.List.{take_all}
@@ -19,8 +19,8 @@ use Rattle.ds_text.specs.Lines.{shown, without_return, IsFree}
 use Rattle.ds_text.specs.Forms.{FormFits}
 use Rattle.ds_text.specs.Cells.{doubled, text_of}
 use Rattle.ds_text.specs.Columns.{is_text}
-use Rattle.ds_text.specs.Records.{is_null, has_byte, needs_quotes, written_field, written_more, written_fields, written_column, SpellsIn, SpellsRow, SpellsColumns, holds_end, is_too_wide, any_wide, is_refused, written_row, written_columns}
-use Rattle.ds_text.specs.RecordLaws.{OneRow, SpelledFits, ends_with, IsReadable, ReadsBack, written_rows, SpellRows, FileAgain, FileReadsBack}
+use Rattle.ds_text.specs.Records.{is_null, has_byte, needs_quotes, written_field, written_more, written_fields, written_column, SpellsIn, SpellsRow, SpellsColumns, holds_end, any_wide, written_row, written_columns}
+use Rattle.ds_text.specs.RecordLaws.{OneRow, SpelledFits, ends_with, IsReadable, ReadsBack, SpellRows, FileReadsBack}
 use Rattle.ds_text.proofs.Again.{lines_again}
 use Rattle.ds_text.proofs.FieldWriting.{and_parts, kind_fits}
 use Rattle.ds_text.proofs.Solid.{IsMarked, solid}
@@ -55,13 +55,13 @@ pub reads_back : ReadsBack
 reads_back (Delimited d) fields row schema fit r =
     let line = written_row (Delimited d) fields row in
     subst (λ l. SpellsRow (Delimited d) fields l row) (sym (shown_whole line (fields_end d fields row fit.no_return) r.short))
-      (record { short = r.short; spells = fields_again d fields row schema.some schema.each r.fits })
+    (record { short = r.short; spells = fields_again d fields row schema.some schema.each r.fits })
 reads_back (Fixed ws) fields row schema fit r =
     let line = written_columns fields ws row in
     let again = columns_again fields ws row fit.one_each schema.each r.fits (or_parts (holds_end row) (any_wide fields ws row) r.writable).1 r.kept.0 in
     let within : length line ≤ sum ws = omega (arith, again.full) in
     subst (λ l. SpellsRow (Fixed ws) fields l row) (sym (shown_whole line r.kept.1 r.short))
-      (record { short = r.short; spells = (within, subst (λ l. SpellsColumns fields ws l row) (sym (full_line (sum ws) line again.full)) again.spells) })
+    (record { short = r.short; spells = (within, subst (λ l. SpellsColumns fields ws l row) (sym (full_line (sum ws) line again.full)) again.spells) })
 
 -- no written row holds the end of a line
 free_append : (xs ys : List ℕ) → IsFree xs → IsFree ys → IsFree (xs ++ ys)

@@ -1,14 +1,13 @@
 -- Numbers and dates are spelled without spaces and ends of lines.
-use Rattle.std.proofs.Common.{◌≡◌, ◌≤◌, ◌<◌, ◌+◌, ◌/◌, ◌%◌, ◌++◌, ◌∷◌, [], ◌==◌, ◌&&◌, ℕ, zero, suc, List, Bool, true, false, refl, sym, ap, ◌∙◌, arith, length, subst, length-append, append-nil}
+use Rattle.std.proofs.Common.{◌≡◌, ◌≤◌, ◌+◌, ◌/◌, ◌%◌, ◌++◌, ◌∷◌, [], ℕ, zero, suc, List, true, false, sym, ap, ◌∙◌, arith, length, subst, length-append, append-nil}
 use Rattle.std.specs.List.{AllByRecursion}
 use Rattle.std.specs.Str.{all_ascii_digits}
 use Rattle.std.specs.Char.{is_ascii_digit}
 use Rattle.std.proofs.lemmas.Bool.Decides.{nat_tests}
-use Rattle.std.proofs.lemmas.Bool.{ne_eqb}
 use Rattle.ds_value.specs.declared.kind.Kind.{Kind}
 use Rattle.ds_value.specs.declared.kind.Kind.TheVariants as kind
 use Rattle.ds_value.specs.declared.value.Value.{Value}
-use Rattle.ds_value.specs.declared.value.Value.TheVariants.{Null, Int, UInt, Dec, Text, Date}
+use Rattle.ds_value.specs.declared.value.Value.TheVariants.{Int, UInt, Dec, Date}
 use Rattle.ds_value.specs.Spellings.{Spells, Sign, sign_text, point_text, last_digits, date_text}
 use Rattle.ds_value.specs.Spellings.Sign.{Missing, Plus, Minus}
 use Rattle.ds_text.specs.Columns.{is_text}
@@ -59,7 +58,7 @@ date_solid : (year month day : ℕ) → IsSolid (date_text year month day)
 date_solid year month day = record {
   some = omega (arith, length-append (last_digits 4 year) (45 ∷ last_digits 2 month ++ (45 ∷ last_digits 2 day)));
   each = each_append (last_digits 4 year) (45 ∷ last_digits 2 month ++ (45 ∷ last_digits 2 day)) (last_marked 4 year)
-    (each_append (45 ∷ last_digits 2 month) (45 ∷ last_digits 2 day) (omega arith, last_marked 2 month) (omega arith, last_marked 2 day));
+      (each_append (45 ∷ last_digits 2 month) (45 ∷ last_digits 2 day) (omega arith, last_marked 2 month) (omega arith, last_marked 2 day));
 }
 
 pub solid : (k : Kind) (bytes : List ℕ) (v : Value) → is_text k ≡ false → Spells k bytes v → IsSolid bytes

@@ -1,5 +1,5 @@
-use Rattle.std.proofs.Common.{◌≡◌, ◌≤◌, ◌<◌, ◌+◌, ◌-◌, ◌++◌, ◌∷◌, [], ℕ, zero, suc, List, Bool, true, false, refl, sym, ap, ◌∙◌, arith, length, take, map, min, IsTrue, Result, Ok, Err, append_assoc, append-nil, length-append, length-take, subst}
-use Rattle.ds_text.specs.Lines.{Reading, split_within, lines_within, before, with_before, with_line, without_return, shown}
+use Rattle.std.proofs.Common.{◌≡◌, ◌≤◌, ◌<◌, ◌+◌, ◌++◌, ◌∷◌, [], ℕ, suc, List, Bool, true, false, refl, sym, ap, ◌∙◌, arith, length, take, map, Err, append-nil, length-append, length-take}
+use Rattle.ds_text.specs.Lines.{Reading, split_within, lines_within, before, with_before, without_return, shown}
 use Rattle.ds_text.specs.Readers.{Reader, remaining, first, Reads}
 use Rattle.ds_text.specs.Pieces.{kept, Takes}
 use Rattle.ds_text.specs.declared.line_reader.LineFault.{LineFault}

@@ -1,7 +1,6 @@
 -- The content of a quoted field is read piece by piece.
-use Rattle.std.proofs.Common.{◌≡◌, ◌≤◌, ◌<◌, ◌+◌, ◌++◌, ◌∷◌, [], ◌==◌, ℕ, zero, suc, List, Bool, true, false, cond, Option, Some, None, IfSome, IfNone, refl, sym, ap, ◌∙◌, arith, length, take, drop, get_or, length-drop, append_assoc, append-nil}
+use Rattle.std.proofs.Common.{◌≡◌, ◌≤◌, ◌<◌, ◌+◌, ◌++◌, ◌∷◌, [], ◌==◌, ℕ, zero, suc, List, true, false, Option, Some, None, IfSome, IfNone, refl, sym, ap, ◌∙◌, arith, length, take, drop, get_or, length-drop, append_assoc, append-nil}
 use Rattle.std.proofs.lemmas.List.{drop-drop}
-use Rattle.std.proofs.lemmas.Bool.{eqb-true}
 use Rattle.memchr.specs.Find.{IsFirstByte, is_byte}
 use Rattle.ds_text.specs.Reading.{Quoted, unquoted, with_front, begins_quoted, HasPiece}
 use Rattle.ds_text.proofs.Searches.{test_false}
@@ -80,5 +79,5 @@ taken_more bytes into more new at n t h e q k =
     record {
       within = omega (arith, some, length-drop behind bytes);
       all = sym (behind_piece bytes into at n t h ∙ (ap (with_front whole) rest ∙ (front_more whole (34 ∷ []) (unquoted false (drop (behind + 1) bytes))
-        ∙ ap (λ l. with_front l (unquoted false (drop (behind + 1) bytes))) (ap (λ l. l ++ 34 ∷ []) (sym e) ∙ sym k))));
+          ∙ ap (λ l. with_front l (unquoted false (drop (behind + 1) bytes))) (ap (λ l. l ++ 34 ∷ []) (sym e) ∙ sym k))));
     }

@@ -1,5 +1,5 @@
 -- The lines of a file: which there are, what is given of each, and where a file is too long.
-use Rattle.std.specs.Prelude.{◌==◌, ◌++◌, ◌^◌, ◌+◌, ℕ, zero, suc, List, [], ◌∷◌, Bool, true, false, if◌then◌else◌, take, map, length, ◌≤◌, ◌≡◌}
+use Rattle.std.specs.Prelude.{◌==◌, ◌++◌, ◌^◌, ℕ, zero, suc, List, [], ◌∷◌, Bool, true, false, if◌then◌else◌, take, map, length, ◌≤◌, ◌≡◌}
 use Rattle.std.specs.List.{AllByRecursion, flat_map}
 
 -- lines, and whether behind them comes that the file is too long

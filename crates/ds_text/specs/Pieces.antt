@@ -1,5 +1,5 @@
 -- What a piece of a reader's buffer holds of a line.
-use Rattle.std.specs.Prelude.{◌≡◌, ◌<◌, ◌++◌, ◌+◌, ℕ, List, [], ◌∷◌, length, take, drop}
+use Rattle.std.specs.Prelude.{◌≡◌, ◌<◌, ◌++◌, ◌+◌, ℕ, List, ◌∷◌, length, take, drop}
 use Rattle.ds_text.specs.Lines.{IsFree}
 use Rattle.ds_text.specs.Readers.{Reader}
 

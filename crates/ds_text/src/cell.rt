@@ -90,11 +90,21 @@ fn meaning(alloc: Global, field: &Field, quoted: bool, bytes: &[u8]) -> Result<V
     ensures found { IfOk result (λ value. Means field.now quoted bytes.now value) }
     ensures bad { result ≡ Err RecordFault.Bad → MeansNone (is_null_cell field.now quoted bytes.now) field.now.kind bytes.now }
 {
-    null_or(alloc, is_null_cell(field, quoted, bytes), &field.kind, bytes)
+    null_or(
+        alloc,
+        is_null_cell(field, quoted, bytes),
+        &field.kind,
+        bytes,
+    )
 }
 
 /// The value of the quoted field at the front of a line, behind its first quote, and how many bytes it takes from there.
-fn quoted_value(alloc: Global, field: &Field, delimiter: u8, inside: &[u8]) -> Result<(Value, usize), RecordFault>
+fn quoted_value(
+    alloc: Global,
+    field: &Field,
+    delimiter: u8,
+    inside: &[u8],
+) -> Result<(Value, usize), RecordFault>
     requires { IsKind field.now.kind }
     ensures found { IfOk result (λ x. FieldAt delimiter field.now (34 ∷ inside.now) x.0 (x.1 + 1)) }
     ensures within { IfOk result (λ x. x.1 ≤ length inside.now) }
@@ -115,7 +125,12 @@ fn quoted_value(alloc: Global, field: &Field, delimiter: u8, inside: &[u8]) -> R
     }
 }
 
-fn plain_value(alloc: Global, field: &Field, delimiter: u8, line: &[u8]) -> Result<(Value, usize), RecordFault>
+fn plain_value(
+    alloc: Global,
+    field: &Field,
+    delimiter: u8,
+    line: &[u8],
+) -> Result<(Value, usize), RecordFault>
     requires kind { IsKind field.now.kind }
     requires plain { BeginsPlain line.now }
     ensures found { IfOk result (λ x. FieldAt delimiter field.now line.now x.0 x.1) }
@@ -129,7 +144,12 @@ fn plain_value(alloc: Global, field: &Field, delimiter: u8, line: &[u8]) -> Resu
 }
 
 /// The value of the field at the front of a line, and how many bytes it takes.
-pub fn field_value(alloc: Global, field: &Field, delimiter: u8, line: &[u8]) -> Result<(Value, usize), RecordFault>
+pub fn field_value(
+    alloc: Global,
+    field: &Field,
+    delimiter: u8,
+    line: &[u8],
+) -> Result<(Value, usize), RecordFault>
     requires { IsKind field.now.kind }
     ensures found { IfOk result (λ x. FieldAt delimiter field.now line.now x.0 x.1) }
     ensures bad { result ≡ Err RecordFault.Bad → NoField delimiter field.now line.now }

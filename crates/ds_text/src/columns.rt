@@ -90,7 +90,12 @@ fn cut(line: &[u8], width: usize) -> (&[u8], &[u8])
 }
 
 /// The values of a line of columns.
-pub fn read_columns(alloc: Global, fields: &[Field], widths: &[u32], line: &[u8]) -> Result<Vec<Value>, RecordFault>
+pub fn read_columns(
+    alloc: Global,
+    fields: &[Field],
+    widths: &[u32],
+    line: &[u8],
+) -> Result<Vec<Value>, RecordFault>
     requires widths { length widths.now ≡ length fields.now }
     requires fields { AllByRecursion IsField fields.now }
     ensures found { IfOk result (λ row. SpellsFixed fields.now widths.now line.now row.items) }

@@ -14,11 +14,20 @@ use std::alloc::Global;
 fn behind(line: &[u8], len: usize) -> &[u8]
     ensures { result.now ≡ drop (len + 1) line.now }
 {
-    if len < line.len() { &line[len + 1..] } else { &[] }
+    if len < line.len() {
+        &line[len + 1..]
+    } else {
+        &[]
+    }
 }
 
 /// The values of a delimited line.
-pub fn read_fields(alloc: Global, fields: &[Field], delimiter: u8, line: &[u8]) -> Result<Vec<Value>, RecordFault>
+pub fn read_fields(
+    alloc: Global,
+    fields: &[Field],
+    delimiter: u8,
+    line: &[u8],
+) -> Result<Vec<Value>, RecordFault>
     requires delimiter { (delimiter == 34) ≡ false }
     requires fields { AllByRecursion IsField fields.now }
     ensures found { IfOk result (λ row. SpellsFields delimiter fields.now (Some line.now) row.items) }

@@ -77,7 +77,11 @@ fn ends_with_return(bytes: &[u8]) -> bool
 fn line_len(bytes: &[u8]) -> usize
     ensures { result ≡ length (without_return bytes.now) }
 {
-    if ends_with_return(bytes) { bytes.len().saturating_sub(1) } else { bytes.len() }
+    if ends_with_return(bytes) {
+        bytes.len().saturating_sub(1)
+    } else {
+        bytes.len()
+    }
 }
 
 /// A line as it is given, of what was kept.
@@ -139,8 +143,7 @@ fn probe<S: Source>(source: &mut S) -> Result<usize, LineFault>
 #[tactic(auto, using(crate::proofs::Again::lines_again))]
 pub fn lines_again()
     ensures { LinesAgain }
-{
-}
+{}
 
 impl<S: Source> Lines<S> {
     pub fn new(alloc: Global, source: S) -> Lines<S>
@@ -249,7 +252,6 @@ impl<S: Source> Lines<S> {
     }
 }
 
-
 #[cfg(test)]
 mod tests {
     use super::*;
@@ -296,7 +298,11 @@ mod tests {
     #[test]
     fn a_long_line_is_cut(rt: HostRuntime) -> Result<(), Fail> {
         let alloc = rt.alloc();
-        for (count, wanted) in [(2_097_151, 2_097_151), (2_097_153, 2_097_153), (2_097_154, 2_097_153)] {
+        for (count, wanted) in [
+            (2_097_151, 2_097_151),
+            (2_097_153, 2_097_153),
+            (2_097_154, 2_097_153),
+        ] {
             let mut text = vec![in alloc; b'x'; count]?;
             text.extend_from_slice(b"\r\nnext")?;
             let mut lines = Lines::new(alloc, MemSource::new(text, NeverFails));

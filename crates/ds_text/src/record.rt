@@ -22,7 +22,12 @@ const LONGEST: usize = 2_097_152;
 /// The room that is made for a record at first.
 const ROOM: usize = 128;
 
-fn read_values(alloc: Global, fields: &[Field], form: &Form, line: &[u8]) -> Result<Vec<Value>, RecordFault>
+fn read_values(
+    alloc: Global,
+    fields: &[Field],
+    form: &Form,
+    line: &[u8],
+) -> Result<Vec<Value>, RecordFault>
     requires form { FormFits fields.now form.now }
     requires fields { AllByRecursion IsField fields.now }
     ensures found { IfOk result (λ row. SpellsIn form.now fields.now line.now row.items) }
@@ -35,7 +40,12 @@ fn read_values(alloc: Global, fields: &[Field], form: &Form, line: &[u8]) -> Res
 }
 
 /// The row that a line spells.
-pub fn read_record(alloc: Global, schema: &Schema, form: &Form, line: &[u8]) -> Result<Row, RecordFault>
+pub fn read_record(
+    alloc: Global,
+    schema: &Schema,
+    form: &Form,
+    line: &[u8],
+) -> Result<Row, RecordFault>
     requires { FormFits schema.now form.now }
     ensures found { IfOk result (λ row. SpellsRow form.now schema.now line.now row) }
     ensures fits { IfOk result (λ row. row_fits schema.now row ≡ true) }
@@ -66,7 +76,13 @@ fn ends_line(value: &Value) -> bool
     }
 }
 
-fn write_values(alloc: Global, fields: &[Field], form: &Form, row: &[Value], into: &mut Bytes) -> Result<(), RecordFault>
+fn write_values(
+    alloc: Global,
+    fields: &[Field],
+    form: &Form,
+    row: &[Value],
+    into: &mut Bytes,
+) -> Result<(), RecordFault>
     requires form { FormFits fields.now form.now }
     requires fields { AllByRecursion IsField fields.now }
     requires fits { row_fits fields.now row.now ≡ true }
@@ -103,7 +119,13 @@ fn record_text(alloc: Global, schema: &Schema, form: &Form, row: &Row) -> Result
 }
 
 /// Appends the one text of a record, without the end of a line, or changes nothing.
-pub fn write_record(alloc: Global, schema: &Schema, form: &Form, row: &Row, into: &mut Bytes) -> Result<(), RecordFault>
+pub fn write_record(
+    alloc: Global,
+    schema: &Schema,
+    form: &Form,
+    row: &Row,
+    into: &mut Bytes,
+) -> Result<(), RecordFault>
     requires form { FormFits schema.now form.now }
     requires fits { row_fits schema.now row.now ≡ true }
     ensures ok { OnOk result ((into.new ≡ into.old ++ written_row form.now schema.now row.now) × (is_refused form.now schema.now row.now ≡ false)) }
@@ -121,7 +143,13 @@ pub fn write_record(alloc: Global, schema: &Schema, form: &Form, row: &Row, into
 }
 
 /// Appends a record and the end of its line, or changes nothing.
-pub fn write_line(alloc: Global, schema: &Schema, form: &Form, row: &Row, into: &mut Bytes) -> Result<(), RecordFault>
+pub fn write_line(
+    alloc: Global,
+    schema: &Schema,
+    form: &Form,
+    row: &Row,
+    into: &mut Bytes,
+) -> Result<(), RecordFault>
     requires form { FormFits schema.now form.now }
     requires fits { row_fits schema.now row.now ≡ true }
     ensures ok { OnOk result ((into.new ≡ into.old ++ (written_row form.now schema.now row.now ++ 10 ∷ [])) × (is_refused form.now schema.now row.now ≡ false)) }
@@ -146,23 +174,20 @@ pub fn write_line(alloc: Global, schema: &Schema, form: &Form, row: &Row, into: 
 #[tactic(auto, using(crate::proofs::RecordProofs::one_row))]
 pub fn one_row()
     ensures { OneRow }
-{
-}
+{}
 
 /// A row that a line spells fits the schema.
 #[tactic(auto, using(crate::proofs::RecordProofs::spelled_fits))]
 pub fn spelled_fits()
     ensures { SpelledFits }
-{
-}
+{}
 
 /// What is written reads back as the same row, and a file of rows as these rows.
 #[tactic(auto, using(crate::proofs::RecordProofs::reads_back, crate::proofs::RecordProofs::file_reads_back))]
 pub fn reads_back()
     ensures row { ReadsBack }
     ensures file { FileReadsBack }
-{
-}
+{}
 
 #[cfg(test)]
 mod tests {
@@ -178,9 +203,21 @@ mod tests {
         let c = Name::from_bytes(alloc, b"c")?.ok_or("no name")?;
         let (nullable, max, fixed) = (true, 4, false);
         let fields = vec![in alloc;
-            Field { name: a, nullable: false, kind: Kind::Int(32) },
-            Field { name: b, nullable, kind: Kind::Text { max, fixed } },
-            Field { name: c, nullable: false, kind: Kind::Text { max: 9, fixed } },
+            Field {
+                name: a,
+                nullable: false,
+                kind: Kind::Int(32)
+            },
+            Field {
+                name: b,
+                nullable,
+                kind: Kind::Text { max, fixed }
+            },
+            Field {
+                name: c,
+                nullable: false,
+                kind: Kind::Text { max: 9, fixed }
+            },
         ]?;
         Ok(Schema::from_vec(fields))
     }
@@ -214,7 +251,11 @@ mod tests {
         (b"1,a;b,x", b"1 [a;b] [x] ", b"1;\"a;b\";x"),
         (b"1,\"a\"\"b\",x", b"1 [a\"b] [x] ", b"1;\"a\"\"b\";x"),
         (b"1,a\"b,x", b"1 [a\"b] [x] ", b"1;\"a\"\"b\";x"),
-        (b"1,a\"\"b,x\"", b"1 [a\"\"b] [x\"] ", b"1;\"a\"\"\"\"b\";\"x\"\"\""),
+        (
+            b"1,a\"\"b,x\"",
+            b"1 [a\"\"b] [x\"] ",
+            b"1;\"a\"\"\"\"b\";\"x\"\"\"",
+        ),
         (b"1,\"\"\"\",x", b"1 [\"] [x] ", b"1;\"\"\"\";x"),
         (b"1,a\rb,x", b"1 [a\rb] [x] ", b"1;\"a\rb\";x"),
         (b"1, a ,x ", b"1 [ a ] [x ] ", b"1; a ;x "),
@@ -238,7 +279,13 @@ mod tests {
     ];
 
     /// Whether a line spells the row that is described so, which is written as `again` with `;`.
-    fn is_read(alloc: Global, schema: &Schema, line: &[u8], wanted: &[u8], again: &[u8]) -> Result<bool, Fail> {
+    fn is_read(
+        alloc: Global,
+        schema: &Schema,
+        line: &[u8],
+        wanted: &[u8],
+        again: &[u8],
+    ) -> Result<bool, Fail> {
         let row = read_record(alloc, schema, &Form::Delimited(b','), line)?;
         let mut text = Bytes::from_vec(b"|".to_vec(alloc)?);
         write_record(alloc, schema, &Form::Delimited(b';'), &row, &mut text)?;
@@ -246,7 +293,10 @@ mod tests {
     }
 
     fn is_bad(alloc: Global, schema: &Schema, line: &[u8]) -> bool {
-        matches!(read_record(alloc, schema, &Form::Delimited(b','), line), Err(RecordFault::Bad))
+        matches!(
+            read_record(alloc, schema, &Form::Delimited(b','), line),
+            Err(RecordFault::Bad)
+        )
     }
 
     #[test]
@@ -312,7 +362,9 @@ mod tests {
         for (line, wanted, again) in COLUMNS {
             let (row, text) = in_columns(alloc, &schema, line)?;
             assert_eq!(rt; row.as_slice(), wanted, "{line:?}");
-            let (written, end) = text.as_slice().split_at(again.len().min(text.as_slice().len()));
+            let (written, end) = text
+                .as_slice()
+                .split_at(again.len().min(text.as_slice().len()));
             assert_eq!(rt; written, again, "{line:?}");
             assert_eq!(rt; end.is_empty(), again.is_empty(), "{line:?}");
         }
@@ -331,14 +383,23 @@ mod tests {
             Ok(())
         };
         let ends = line.contains(&b'\n');
-        Ok(delimited == Err(RecordFault::Bad) && ends || delimited == Ok(()) && fixed == Err(RecordFault::Bad))
+        Ok(
+            delimited == Err(RecordFault::Bad) && ends
+                || delimited == Ok(()) && fixed == Err(RecordFault::Bad),
+        )
     }
 
     #[test]
     fn rows_may_be_unwritable(rt: HostRuntime) -> Result<(), Fail> {
         let alloc = rt.alloc();
         let schema = schema(alloc)?;
-        for line in [b"1,a\nb,x".as_slice(), b"1000,ab,x", b"-100,ab,x", b"1,ab,xyz", b"1,ab,\"x\n\""] {
+        for line in [
+            b"1,a\nb,x".as_slice(),
+            b"1000,ab,x",
+            b"-100,ab,x",
+            b"1,ab,xyz",
+            b"1,ab,\"x\n\"",
+        ] {
             assert!(rt; is_refused(alloc, &schema, line)?, "{line:?}");
         }
         Ok(())

@@ -35,7 +35,13 @@ fn write_padded(left: bool, text: &[u8], width: usize, into: &mut Bytes) -> Resu
     into.append(text)
 }
 
-fn write_column(alloc: Global, field: &Field, width: usize, value: &Value, into: &mut Bytes) -> Result<(), RecordFault>
+fn write_column(
+    alloc: Global,
+    field: &Field,
+    width: usize,
+    value: &Value,
+    into: &mut Bytes,
+) -> Result<(), RecordFault>
     requires kind { IsKind field.now.kind }
     requires fits { fits_field field.now value.now ≡ true }
     ensures ok { OnOk result ((into.new ≡ into.old ++ written_column field.now width value.now) × (is_wide field.now width value.now ≡ false)) }
@@ -61,7 +67,13 @@ fn write_column(alloc: Global, field: &Field, width: usize, value: &Value, into:
     }
 }
 
-pub fn write_columns(alloc: Global, fields: &[Field], widths: &[u32], row: &[Value], into: &mut Bytes) -> Result<(), RecordFault>
+pub fn write_columns(
+    alloc: Global,
+    fields: &[Field],
+    widths: &[u32],
+    row: &[Value],
+    into: &mut Bytes,
+) -> Result<(), RecordFault>
     requires widths { length widths.now ≡ length fields.now }
     requires fields { AllByRecursion IsField fields.now }
     requires fits { row_fits fields.now row.now ≡ true }

@@ -75,7 +75,13 @@ fn quote_from(alloc: Global, at: usize, into: &mut Bytes) -> Result<(), NoMemory
     write_quoted(&text, into)
 }
 
-fn write_field(alloc: Global, delimiter: u8, field: &Field, value: &Value, into: &mut Bytes) -> Result<(), NoMemory>
+fn write_field(
+    alloc: Global,
+    delimiter: u8,
+    field: &Field,
+    value: &Value,
+    into: &mut Bytes,
+) -> Result<(), NoMemory>
     requires kind { IsKind field.now.kind }
     requires fits { fits_field field.now value.now ≡ true }
     ensures { OnOk result (into.new ≡ into.old ++ written_field delimiter field.now value.now) }
@@ -101,7 +107,13 @@ fn separate(i: usize, delimiter: u8, into: &mut Bytes) -> Result<(), NoMemory>
     into.push(delimiter)
 }
 
-pub fn write_fields(alloc: Global, delimiter: u8, fields: &[Field], row: &[Value], into: &mut Bytes) -> Result<(), NoMemory>
+pub fn write_fields(
+    alloc: Global,
+    delimiter: u8,
+    fields: &[Field],
+    row: &[Value],
+    into: &mut Bytes,
+) -> Result<(), NoMemory>
     requires fields { AllByRecursion IsField fields.now }
     requires fits { row_fits fields.now row.now ≡ true }
     ensures { OnOk result (into.new ≡ into.old ++ written_fields delimiter fields.now row.now) }

@@ -1,4 +1,4 @@
-use Rattle.std.proofs.Common.{◌≡◌, true, sym, ap, ◌∙◌, Ok, Some}
+use Rattle.std.proofs.Common.{sym, ap, ◌∙◌, Ok}
 use Rattle.std.proofs.lemmas.List.{take_rest}
 use Rattle.ds_text.proofs.Fronts.{quoted_at}
 use Rattle.ds_text.proofs.cell.quoted_value.Goals as goal

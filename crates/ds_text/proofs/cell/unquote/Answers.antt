@@ -1,6 +1,6 @@
-use Rattle.std.proofs.Common.{◌≡◌, ◌+◌, ◌-◌, ◌++◌, ◌∙◌, ap, sym, subst, arith, take, drop, Some}
+use Rattle.std.proofs.Common.{◌≡◌, ◌+◌, ◌-◌, ◌++◌, ◌∙◌, ap, sym, arith, take, drop, Some}
 use Rattle.std.proofs.lemmas.List.{take_rest}
-use Rattle.ds_text.specs.Reading.{HasPiece, unquoted}
+use Rattle.ds_text.specs.Reading.{HasPiece}
 use Rattle.ds_text.proofs.Unquoting.{taken_end, taken_more}
 use Rattle.ds_text.proofs.cell.unquote.Goals as goal
 

@@ -11,14 +11,14 @@ returns-in-Err-column_value-clause-bad c = λ e us s.
     let same : c.in-Err-column_value.fault ≡ Bad = cc e in
     let within : c.loop-i.i < length c.args.widths.now = omega (arith, c.requires.widths, c.loop-i-test.true) in
     no_column _ _ _ _ _ _ _ _ (item_more c.args.fields.now c.loop-i.i c.index-fields-i.result c.loop-i-test.true c.index-fields-i.is) (drop_more c.args.widths.now c.loop-i.i 0 within)
-      (rw c.cut.ensures.front at (c.in-Err-column_value.ensures.bad (ap Err same))) c.loop-i.invariant us (spells_fixed _ _ _ us s)
+    (rw c.cut.ensures.front at (c.in-Err-column_value.ensures.bad (ap Err same))) c.loop-i.invariant us (spells_fixed _ _ _ us s)
 
 pub loop-i-preserved : goal.loop-i-preserved
 loop-i-preserved c =
     let within : c.loop-i.i < length c.args.widths.now = omega (arith, c.requires.widths, c.loop-i-test.true) in
     rw (c.cut.ensures.back, c.in-Ok-push.ensures.items)
-      (more_columns _ _ _ _ _ _ _ _ _ (item_more c.args.fields.now c.loop-i.i c.index-fields-i.result c.loop-i-test.true c.index-fields-i.is) (drop_more c.args.widths.now c.loop-i.i 0 within)
-        (rw c.cut.ensures.front at c.in-Ok-column_value.ensures.found) c.loop-i.invariant)
+    (more_columns _ _ _ _ _ _ _ _ _ (item_more c.args.fields.now c.loop-i.i c.index-fields-i.result c.loop-i-test.true c.index-fields-i.is) (drop_more c.args.widths.now c.loop-i.i 0 within)
+    (rw c.cut.ensures.front at c.in-Ok-column_value.ensures.found) c.loop-i.invariant)
 
 pub returns-then-not-is_empty-clause-bad : goal.returns-then-not-is_empty-clause-bad
 returns-then-not-is_empty-clause-bad c = λ _ us s.

@@ -1,4 +1,4 @@
-use Rattle.std.proofs.Common.{◌≡◌, ◌≤◌, IsTrue, arith, length-take, refl, ap, ◌∙◌, Ok, Err}
+use Rattle.std.proofs.Common.{arith, length-take, ap, ◌∙◌, Ok, Err}
 use Rattle.ds_text.specs.Lines.{without_return}
 use Rattle.ds_text.proofs.Underway.{begin, filled, short, continued, further, ended, closed, refused}
 use Rattle.ds_text.proofs.line_reader.Lines.next_line.Goals as goal
@@ -26,7 +26,7 @@ take_piece-requires-clause-kept g c = short c.loop-into.invariant
 pub returns-in-Ok-true-take_piece-clause-line : goal.returns-in-Ok-true-take_piece-clause-line
 returns-in-Ok-true-take_piece-clause-line g c =
     ended (filled c.loop-into.invariant c.in-Ok-true.ensures.told c.ready.ensures.room c.ready.ensures.cause.later)
-      (c.take_piece.ensures.found (c.in-Ok-true-take_piece.is ∙ ap Ok c.in-Ok-true-take_piece.field-0-test)) c.finish-in-Ok-true-take_piece.ensures
+    (c.take_piece.ensures.found (c.in-Ok-true-take_piece.is ∙ ap Ok c.in-Ok-true-take_piece.field-0-test)) c.finish-in-Ok-true-take_piece.ensures
 
 pub returns-in-Ok-true-take_piece-clause-cause : goal.returns-in-Ok-true-take_piece-clause-cause
 returns-in-Ok-true-take_piece-clause-cause g c = record { later = rw c.take_piece.ensures.faults (omega (arith, c.loop-into.invariant.later, c.ready.ensures.cause.later)); rose = λ h. cc }
@@ -37,9 +37,9 @@ returns-in-Ok-true-take_piece-clause-short g c = rw c.finish-in-Ok-true-take_pie
 pub loop-into-preserved : goal.loop-into-preserved
 loop-into-preserved g c =
     continued (filled c.loop-into.invariant c.in-Ok-true.ensures.told c.ready.ensures.room c.ready.ensures.cause.later)
-      (c.take_piece.ensures.«open» (c.in-Ok-false-take_piece.is ∙ ap Ok c.in-Ok-false-take_piece.field-0-test))
+    (c.take_piece.ensures.«open» (c.in-Ok-false-take_piece.is ∙ ap Ok c.in-Ok-false-take_piece.field-0-test))
 
 pub returns-in-Ok-true-take_piece-clause-progress : goal.returns-in-Ok-true-take_piece-clause-progress
 returns-in-Ok-true-take_piece-clause-progress g c = λ _.
     further (filled c.loop-into.invariant c.in-Ok-true.ensures.told c.ready.ensures.room c.ready.ensures.cause.later)
-      (c.take_piece.ensures.found (c.in-Ok-true-take_piece.is ∙ ap Ok c.in-Ok-true-take_piece.field-0-test))
+    (c.take_piece.ensures.found (c.in-Ok-true-take_piece.is ∙ ap Ok c.in-Ok-true-take_piece.field-0-test))

@@ -1,4 +1,4 @@
-use Rattle.std.proofs.Common.{◌≡◌, ◌≤◌, ◌<◌, ◌+◌, ◌-◌, ◌++◌, ◌∷◌, ◌^◌, [], length, take, drop, sym, ap, ◌∙◌, arith, refl, length-take}
+use Rattle.std.proofs.Common.{◌≤◌, ◌<◌, ◌-◌, length, take, arith, refl, length-take}
 use Rattle.ds_text.specs.Pieces.{EndsAt}
 use Rattle.ds_text.proofs.PieceLemmas.{part, line_moved, whole_moved, length-part}
 use Rattle.ds_text.proofs.line_reader.Lines.take_piece.Goals as goal
