@@ -19,7 +19,8 @@ use Rattle.ds_schema.specs.declared.schema_text.fault.SchemaWhy.{SchemaWhy}
 use Rattle.ds_schema.specs.declared.schema_text.fault.SchemaWhy.TheVariants.{Syntax, Name, Count}
 use Rattle.ds_schema.specs.Schemas.{IsField, AreDistinct, IsSchema}
 use Rattle.ds_schema.specs.SchemaReading.{has_field, field_at, semicolon_at, separator_at, fields_at, schema_at, whole_schema_at}
-use Rattle.ds_schema.specs.SchemaGrammar.{field_phrase, further_phrase, schema_phrase, SpellsSchema}
+use Rattle.ds_schema.specs.SchemaLaws.{schema_form}
+use Rattle.ds_schema.specs.SchemaGrammar.{field_phrase, further_phrase, SpellsSchema}
 use Rattle.ds_schema.proofs.FieldReaders.{is_free, name_taken, no_name, no_word, no_token, field_form, field_reads, field_read}
 
 -- ---- lists of fields
@@ -255,10 +256,6 @@ more_read (g ∷ others) room fields all ts rest e h =
     ∙ (chosen_not (codes ")") (gives fields) (fields_at room fields) h.0 (field_other g h.0 h.2.0 is h.2.1) ∙ next_from others (more_read others) room fields all g h.0 rest e h.2)
 
 -- ---- schemas
-
--- a schema at the front
-abbrev pub schema_form : List Field → Phrase
-schema_form fields ts rest = IsSchema fields × schema_phrase fields ts rest
 
 to_schema : (fields : List Field) (ts rest : List Lexeme) → chain (said (codes "record")) (λ a. chain (said (codes "(")) (λ b. next_form 256 [])) fields ts rest → schema_form fields ts rest
 to_schema fields ts rest h =

@@ -3,3 +3,4 @@ pub mod Schemas
 pub mod SchemaText
 pub mod SchemaReading
 pub mod SchemaGrammar
+pub mod SchemaLaws

@@ -9,4 +9,6 @@ mod schema_text;
 pub use key::{Key, KeyList};
 pub use row::{Row, copy_row, project};
 pub use schema::{Field, Schema};
-pub use schema_text::{SchemaFault, SchemaWhy, field, kind, print_schema, read_schema};
+pub use schema_text::{
+    SchemaFault, SchemaWhy, laws, parse_field, parse_kind, parse_schema, print_schema, read_schema,
+};

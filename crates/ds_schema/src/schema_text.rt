@@ -3,9 +3,10 @@
 mod fault;
 mod fields;
 mod kinds;
+pub mod laws;
 mod printing;
 
 pub use fault::{SchemaFault, SchemaWhy};
-pub use fields::{field, read_schema, schema};
-pub use kinds::kind;
+pub use fields::{parse_field, parse_schema, read_schema};
+pub use kinds::parse_kind;
 pub use printing::print_schema;

@@ -8,7 +8,7 @@ ghost use Rattle.ds_lex.specs.Reading.{Gives, Moves, moved, moved_token};
 ghost use Rattle.ds_schema.specs.SchemaReading.{Reads, answered, fault_behind, field_at, fields_at, has_field, is_field_name, name_at, schema_at, schema_of, semicolon_at, separator_at, whole_schema_at};
 
 use crate::schema_text::fault::{SchemaFault, SchemaWhy};
-use crate::schema_text::kinds::{kind, refuse};
+use crate::schema_text::kinds::{parse_kind, refuse};
 use crate::{Field, Schema};
 use ds_lex::{Cursor, LexedText, Lexeme, Mode, Refusal, Sort, Stop, is_opt_byte, lex, opens_word};
 use ds_value::{Items, Name, NoMemory};
@@ -77,7 +77,7 @@ fn further_field(
     let word = name(fields, cursor)?;
     cursor.expect(b":", SchemaWhy::Syntax)?;
     let nullable = cursor.accept(b"nullable");
-    let kind = kind(cursor)?;
+    let kind = parse_kind(cursor)?;
     let name = owned_name(alloc, word.bytes)?;
     Ok(Field {
         name,
@@ -123,7 +123,7 @@ fn fields(alloc: Global, cursor: &mut Cursor<'_>) -> Result<Items<Field>, Stop<S
 
 /// A schema at the front of the tokens, whatever follows.
 #[tactic(auto, unfolding(crate::specs::SchemaReading::schema_at))]
-pub fn schema(alloc: Global, cursor: &mut Cursor<'_>) -> Result<Schema, Stop<SchemaWhy>>
+pub fn parse_schema(alloc: Global, cursor: &mut Cursor<'_>) -> Result<Schema, Stop<SchemaWhy>>
     ensures { Moves result cursor.new (schema_at cursor.old) }
 {
     cursor.expect(b"record", SchemaWhy::Syntax)?;
@@ -133,7 +133,7 @@ pub fn schema(alloc: Global, cursor: &mut Cursor<'_>) -> Result<Schema, Stop<Sch
 }
 
 /// A field at the front of the tokens, whatever follows.
-pub fn field(alloc: Global, cursor: &mut Cursor<'_>) -> Result<Field, Stop<SchemaWhy>>
+pub fn parse_field(alloc: Global, cursor: &mut Cursor<'_>) -> Result<Field, Stop<SchemaWhy>>
     ensures { Moves result cursor.new (field_at [] cursor.old) }
 {
     further_field(alloc, &[], cursor)
@@ -144,7 +144,7 @@ fn whole_schema(alloc: Global, tokens: &[Lexeme<'_>]) -> Result<Schema, Stop<Sch
     ensures { Gives result (whole_schema_at (lexemes tokens.now)) }
 {
     let mut cursor = Cursor::new(tokens);
-    let schema = schema(alloc, &mut cursor)?;
+    let schema = parse_schema(alloc, &mut cursor)?;
     cursor.finish(SchemaWhy::Syntax)?;
     Ok(schema)
 }

@@ -154,7 +154,7 @@ fn kind_behind(word: Lexeme<'_>, cursor: &mut Cursor<'_>) -> Result<Kind, Refusa
 
 /// The type of a field.
 #[tactic(auto, unfolding(crate::specs::SchemaReading::kind_at))]
-pub fn kind(cursor: &mut Cursor<'_>) -> Result<Kind, Refusal<SchemaWhy>>
+pub fn parse_kind(cursor: &mut Cursor<'_>) -> Result<Kind, Refusal<SchemaWhy>>
     ensures { moved result cursor.new ≡ kind_at cursor.old }
 {
     let word = cursor.token::<SchemaWhy>()?;

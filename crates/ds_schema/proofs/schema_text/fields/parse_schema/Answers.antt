@@ -1,7 +1,7 @@
 use Rattle.std.proofs.Common.{◌≡◌, Ok}
 use Rattle.ds_schema.specs.SchemaReading.{schema_at}
 use Rattle.ds_schema.proofs.SchemaReaders.{read_is_schema}
-use Rattle.ds_schema.proofs.schema_text.fields.schema.Goals as goal
+use Rattle.ds_schema.proofs.schema_text.fields.parse_schema.Goals as goal
 
 pub from_vec-requires : goal.from_vec-requires
 unfolding schema_at
