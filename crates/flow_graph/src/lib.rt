@@ -12,8 +12,8 @@ mod state;
 
 pub use columns::ColSet;
 pub use flow::{Flag, Flow, LinkSpec, Mark, Method, OpSpec};
-pub use parts::{OpParts, Stored};
 pub use op_kind::{AggSpec, OpKind, SetSpec};
+pub use parts::{OpParts, Stored};
 pub use place::Place;
 pub use route::{Choice, Route};
 pub use state::{Spot, State};

@@ -18,3 +18,4 @@ pub mod LawProofs
 pub mod Wrong
 pub mod StateExamples
 pub mod FlowExamples
+pub mod VerdictLaws

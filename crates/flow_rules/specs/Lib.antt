@@ -2,4 +2,5 @@ pub mod Derive
 pub mod Laws
 pub mod Needs
 pub mod Soundness
+pub mod Verdicts
 pub mod WrongRules

@@ -3,5 +3,7 @@
 
 pub mod laws;
 mod need;
+mod verdict;
 
 pub use need::Need;
+pub use verdict::Verdict;

@@ -1,0 +1,102 @@
+-- The verdict on a shaped flow: the states and choices of all links, or the first part of a need that a link misses.
+use Rattle.std.specs.Prelude.{◌≡◌, ℕ, ◌<◌, ◌==◌, Bool, List, [], ◌∷◌, ◌++◌, length, map, get_or, Option, Some, None}
+use Rattle.ds_schema.specs.declared.key.Key.{Key}
+use Rattle.flow_graph.specs.declared.route.Route.{Route}
+use Rattle.flow_graph.specs.declared.route.Route.TheVariants as route
+use Rattle.flow_graph.specs.declared.route.Choice.{Choice}
+use Rattle.flow_graph.specs.declared.state.State.{State}
+use Rattle.flow_graph.specs.Charts.{Chart, link_at, all_links, width_at, links_into, links_from, into_seq, form_at}
+use Rattle.flow_graph.specs.Forms.{form}
+use Rattle.flow_graph.specs.Operators.{Op}
+use Rattle.flow_graph.specs.Runs.{Out, Node, InsertedFrom}
+use Rattle.op_base.specs.Columns.{IsIn}
+use Rattle.std.specs.List.{AllByRecursion}
+use Rattle.flow_rules.specs.Soundness.{Derives, Accepted as Meets}
+use Rattle.flow_rules.specs.declared.need.Need.{Need}
+use Rattle.flow_rules.specs.declared.verdict.Verdict.{Verdict}
+use Rattle.flow_rules.specs.declared.verdict.Verdict.TheVariants.{Accepted, Refused}
+use Rattle.flow_rules.specs.Derive.{derived, refined, routed_state, sorted_state, first_state}
+use Rattle.flow_rules.specs.Needs.{missed, route_missed}
+
+abbrev pub written_or_same : Option Route → Route
+written_or_same None = route.Same
+written_or_same (Some r) = r
+
+-- what is chosen for a link: the written route, or same, and no sort
+abbrev pub choice_at : Chart → ℕ → Choice
+choice_at c l = record { method = written_or_same (get_or c.written l None); sort = None }
+
+abbrev pub state_at : List State → ℕ → State
+state_at states l = get_or states l (first_state [])
+
+-- the state of what a link's producer puts on it, by the states of that one's inputs
+abbrev pub output_at : Bool → Chart → List State → ℕ → State
+output_at regains c states l =
+    refined regains (width_at c l) (derived (form_at c (link_at c l).from) (link_at c l).out (map (state_at states) (links_into c (link_at c l).from)))
+
+-- the state of a link, by those of its producer's inputs
+abbrev pub link_state : Bool → Chart → List State → ℕ → State
+link_state regains c states l =
+    refined regains (width_at c l) (sorted_state (choice_at c l).sort (routed_state (into_seq c l) (choice_at c l).method (output_at regains c states l)))
+
+-- the states of all links: each is the one that its producer's inputs give
+pub record AreStates (regains : Bool) (c : Chart) (states : List State) : Type 0 where
+  pub each : length states ≡ length c.flow.links
+  pub derived : (l : ℕ) → l < length c.flow.links → state_at states l ≡ link_state regains c states l
+
+-- parts of needs with the state that misses them
+abbrev pub with_state : State → List Need → List (Need × State)
+with_state s parts = map (λ part. (part, s)) parts
+
+-- what a link misses: the need of its route, of what its producer puts on it, before those of its consumer
+abbrev pub link_misses : Bool → Chart → List State → ℕ → List (Need × State)
+link_misses regains c states l =
+    let o = (link_at c l).to in
+    with_state (output_at regains c states l) (route_missed (choice_at c l).method (output_at regains c states l))
+    ++ with_state (state_at states l) (missed (form_at c o) (map (state_at states) (links_into c o)) (link_at c l).port)
+
+-- accepted: no link misses anything
+pub record IsAccepted (regains : Bool) (c : Chart) (states : List State) (choices : List Choice) : Type 0 where
+  pub states_are : AreStates regains c states
+  pub choices_are : choices ≡ map (choice_at c) (all_links c)
+  pub none : (l : ℕ) → l < length c.flow.links → link_misses regains c states l ≡ []
+
+-- refused: the least link that misses something, and the first that it misses
+pub record IsRefused (regains : Bool) (c : Chart) (link : ℕ) (need : Need) (have : State) : Type 0 where
+  pub states : List State
+  pub states_are : AreStates regains c states
+  pub in_range : link < length c.flow.links
+  pub before : (l : ℕ) → l < link → link_misses regains c states l ≡ []
+  pub rest : List (Need × State)
+  pub first : link_misses regains c states link ≡ (need, have) ∷ rest
+
+abbrev pub IsVerdict : Bool → Chart → Verdict → Type 0
+IsVerdict regains c (Accepted states choices) = IsAccepted regains c states choices
+IsVerdict regains c (Refused link need have) = IsRefused regains c link need have
+
+-- the flow as operators with all that decides what they mean, in its order
+abbrev pub out_at : Chart → ℕ → Out
+out_at c l = record { port = (link_at c l).out; link = l; route = (choice_at c l).method; sequential = into_seq c l }
+
+abbrev pub node_at : Chart → (ℕ → Op) → ℕ → Node
+node_at c ops o = record { number = o; op = ops o; ins = links_into c o; outs = map (out_at c) (links_from c o) }
+
+abbrev pub nodes_of : Chart → (ℕ → Op) → List Node
+nodes_of c ops = map (node_at c ops) c.order
+
+-- the links into an operator stand in the order of its ports
+abbrev pub PortsInOrder : Chart → ℕ → Type 0
+PortsInOrder c o = (i : ℕ) → i < length (links_into c o) → (link_at c (get_or (links_into c o) i 0)).port ≡ i
+
+-- operators are such as the checker sees them
+abbrev pub FormsAre : Chart → (ℕ → Op) → Type 0
+FormsAre c ops = (o : ℕ) → IsIn o c.order → form (ops o) ≡ form_at c o
+
+-- what an accepted verdict says of the flow's operators, for the law of flows
+pub record AcceptedFlow (regains : Bool) (c : Chart) (states : List State) (ops : ℕ → Op) : Type 0 where
+  pub inserted : AllByRecursion (λ (n : Node). InsertedFrom (λ l. (choice_at c l).sort) n.op 0 n.ins) (nodes_of c ops)
+  pub derives : AllByRecursion (Derives regains (width_at c) (λ l. (choice_at c l).sort) (state_at states)) (nodes_of c ops)
+  pub accepted : AllByRecursion (Meets regains (width_at c) (state_at states)) (nodes_of c ops)
+
+abbrev pub AcceptedIsSound : Type 0
+AcceptedIsSound = (regains : Bool) (c : Chart) (states : List State) (choices : List Choice) (ops : ℕ → Op) → IsVerdict regains c (Accepted states choices) → ((o : ℕ) → IsIn o c.order → PortsInOrder c o) → FormsAre c ops → AcceptedFlow regains c states ops
