@@ -4,3 +4,4 @@ pub mod Loops
 pub mod Machine
 pub mod Descent
 pub mod Taking
+pub mod Giving

@@ -49,7 +49,7 @@ more_more node ps qs ss us =
     ap (λ xs. let n : Node = record { name = node.name; pools = xs; scratch = (node.scratch ++ ss) ++ us } in n) (append_assoc node.pools ps qs)
     ∙ ap (λ xs. let n : Node = record { name = node.name; pools = node.pools ++ (ps ++ qs); scratch = xs } in n) (append_assoc node.scratch ss us)
 
-pooled : (node : Node) (p : List ℕ) (ps : List (List ℕ)) → more_of (with_pool node p) ps [] ≡ more_of node (p ∷ ps) []
+pub pooled : (node : Node) (p : List ℕ) (ps : List (List ℕ)) → more_of (with_pool node p) ps [] ≡ more_of node (p ∷ ps) []
 pooled node p ps = ap (λ xs. let n : Node = record { name = node.name; pools = xs; scratch = node.scratch ++ [] } in n) (append_assoc node.pools (p ∷ []) ps)
 
 -- a token comes that is no QUOTED and no "{"
