@@ -1,12 +1,11 @@
 -- The civil calendar is that of jiff, and each day of its years has one date.
-use Rattle.std.proofs.Common.{◌≡◌, ◌≢◌, ℕ, zero, suc, ◌+◌, ◌-◌, ◌*◌, ◌<◌, ◌≤◌, ◌⊎◌, inl, inr, ℤ, pos, neg_ℤ, ◌+ℤ◌, ◌-ℤ◌, ◌≤ℤ◌, unsigned_abs, Bool, true, false, cond, nat_le, leb-true, leb-false, le-leb, refl, sym, ap, subst, ◌∙◌, arith, rules}
+use Rattle.std.proofs.Common.{◌≡◌, ℕ, zero, suc, ◌+◌, ◌-◌, ◌<◌, ◌≤◌, inl, inr, ℤ, pos, neg_ℤ, ◌+ℤ◌, ◌-ℤ◌, ◌≤ℤ◌, unsigned_abs, Bool, true, false, cond, nat_le, leb-true, leb-false, le-leb, refl, sym, ap, ◌∙◌, arith}
 use Rattle.std.proofs.lemmas.Int.{ints}
 use Rattle.std.proofs.lemmas.Bool.{cases_lt, lt-leb}
-use Rattle.std.proofs.lemmas.Bool.Decides.{nat_tests}
 use Rattle.jiff_core.specs.Calendar as jiff
 use Rattle.jiff_core.proofs.CalendarLemmas as core
 use Rattle.jiff_core.proofs.MarchLemmas.{day_count-early}
-use Rattle.ds_value.specs.Calendar.{is_leap, days_in_year, days_in_month, IsDate, days_of_years, days_of_months, days_before, day_number, greatest, year_of, day_in_year_of, month_of, day_of}
+use Rattle.ds_value.specs.Calendar.{days_in_year, days_in_month, IsDate, days_of_years, days_of_months, days_before, day_number, greatest, year_of, day_in_year_of, month_of, day_of}
 
 pub days_of_years-next : (y : ℕ) → 1 ≤ y → days_of_years y ≡ days_of_years (y - 1) + days_in_year y
 unfolding days_of_years
@@ -71,7 +70,7 @@ civil_is_date y m d low h = record {
   first_month = h.1.0;
   last_month = h.1.1;
   first_day = h.2.0;
-  last_day = h.2.1
+  last_day = h.2.1;
 }
 
 -- more years and months have more days
@@ -217,16 +216,17 @@ date_of_number z h =
     let yearly = day_in_year_of-is z in
     let few = holds.2 in
     let few' = holds'.2 in
-    let before : days_before (year_of z) (month_of z) (day_of z) ≡ place z = omega arith in
-    (record {
-      first_year = omega arith;
-      last_year = omega arith;
-      first_month = omega arith;
-      last_month = omega arith;
-      first_day = omega arith;
-      last_day = omega arith
-    }, ap (λ n. pos n -ℤ pos 719162) before ∙ within.1)
-
+    let before : days_before (year_of z) (month_of z) (day_of z) ≡ place z = omega arith in (
+      record {
+        first_year = omega arith;
+        last_year = omega arith;
+        first_month = omega arith;
+        last_month = omega arith;
+        first_day = omega arith;
+        last_day = omega arith;
+      },
+      ap (λ n. pos n -ℤ pos 719162) before ∙ within.1,
+    )
 
 -- a date's number gives the date back
 pub number_of_date : (y m d : ℕ) → IsDate y m d → (year_of (day_number y m d) ≡ y) × (month_of (day_number y m d) ≡ m) × (day_of (day_number y m d) ≡ d)

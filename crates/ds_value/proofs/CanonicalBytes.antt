@@ -1,5 +1,5 @@
 -- Canonical bytes name one value, and neither of two begins the other.
-use Rattle.std.proofs.Common.{◌≡◌, ◌<◌, ◌≤◌, ℕ, zero, suc, ◌+◌, ◌*◌, ◌/◌, ◌%◌, ◌^◌, ℤ, pos, FitsSigned, to_z, of_z, w32, w64, List, [], ◌∷◌, ◌++◌, length, refl, sym, ap, subst, ◌∙◌, arith, rules, length-append, append_assoc, Bool, true, false, cond, nat_le, nat_lt, ◌==◌, eqb-true, leb-true, ltb-true, unsigned_abs, neg_ℤ}
+use Rattle.std.proofs.Common.{◌≡◌, ◌<◌, ◌≤◌, ℕ, zero, suc, ◌/◌, ◌%◌, ◌^◌, ℤ, pos, FitsSigned, to_z, of_z, w32, w64, List, [], ◌∷◌, ◌++◌, length, refl, sym, ap, ◌∙◌, arith, append_assoc, Bool, true, false, cond, nat_le, nat_lt, ◌==◌, eqb-true, leb-true, ltb-true, unsigned_abs, neg_ℤ}
 use Rattle.std.specs.Int.{Width, w128, to_be_bytes, cast_unsigned, byte_at, bytes_high_first}
 use Rattle.std.proofs.Math.Nat.{div-eq_of_lt, div-div-eq-div-mul, pow-suc}
 use Rattle.std.proofs.Math.Facts.{Fits-of_z}

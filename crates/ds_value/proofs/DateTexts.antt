@@ -1,6 +1,5 @@
 -- The texts of dates.
-use Rattle.std.proofs.Common.{◌≡◌, ◌≢◌, ◌<◌, ◌≤◌, ◌⊎◌, ℕ, zero, suc, ◌+◌, ◌-◌, ◌*◌, ◌/◌, ◌%◌, ◌^◌, ℤ, pos, neg_ℤ, ◌-ℤ◌, ◌≤ℤ◌, ◌<ℤ◌, unsigned_abs, FitsSigned, to_z, of_z, w32, w64, Bool, true, false, ◌&&◌, cond, List, [], ◌∷◌, ◌++◌, length, take, drop, get_or, refl, sym, ap, subst, ◌∙◌, inl, inr, arith, length-append, length-take, length-drop, append_assoc, drop-cons, add-one}
-use Rattle.std.specs.Cmp.{first_so, second_so}
+use Rattle.std.proofs.Common.{◌≡◌, ◌≢◌, ◌<◌, ◌≤◌, ℕ, ◌-◌, ◌^◌, ℤ, pos, neg_ℤ, ◌<ℤ◌, unsigned_abs, FitsSigned, to_z, of_z, w32, w64, true, List, ◌∷◌, ◌++◌, length, take, drop, get_or, refl, sym, ap, subst, ◌∙◌, arith, length-take, length-drop, drop-cons}
 use Rattle.std.specs.Str.{all_ascii_digits}
 use Rattle.std.proofs.Math.Nat.{pow-le-pow_right}
 use Rattle.std.proofs.lemmas.List.{take-append-drop, take_all, drop-drop}
@@ -11,10 +10,10 @@ use Rattle.jiff_core.specs.Calendar as jiff
 use Rattle.jiff_core.proofs.CalendarLemmas as core
 use Rattle.jiff_core.proofs.DateLemmas as dates
 use Rattle.ds_value.specs.Kinds.{is_between}
-use Rattle.ds_value.specs.Calendar.{IsDate, days_in_month, days_before, day_number, year_of, month_of, day_of}
+use Rattle.ds_value.specs.Calendar.{IsDate, days_in_month, day_number, year_of, month_of, day_of}
 use Rattle.ds_value.specs.Spellings.{number_of, last_digits, IsNumeral, date_text, SpellsDate}
 use Rattle.ds_value.proofs.LastDigits.{length-last_digits, last_digits_are_digits, number_of-last_digits, last_digits-number_of, number_of-lt}
-use Rattle.ds_value.proofs.Calendars.{IsDayNumber, first_day, days_before-jiff, day_number-jiff, date_is_civil, civil_is_date, date_of_number, date_in_range, number_of_date}
+use Rattle.ds_value.proofs.Calendars.{IsDayNumber, first_day, day_number-jiff, civil_is_date, date_in_range, number_of_date}
 
 pub small_number : (digits : List ℕ) → length digits ≤ 4 → IsNumeral digits → number_of digits < 10000
 small_number digits few h =
@@ -58,10 +57,11 @@ pub text_once : (y m d y' m' d' : ℕ) → y < 10000 → m < 100 → d < 100 →
 text_once y m d y' m' d' hy hm hd hy' hm' hd' e =
     let years : last_digits 4 y ≡ last_digits 4 y' = ap (take 4) e in
     let months : last_digits 2 m ≡ last_digits 2 m' = ap (λ bs. take 2 (drop 5 bs)) e in
-    let days : last_digits 2 d ≡ last_digits 2 d' = ap (drop 8) e in
-    (sym (number_of-last_digits 4 y hy) ∙ (ap number_of years ∙ number_of-last_digits 4 y' hy'),
-     sym (number_of-last_digits 2 m hm) ∙ (ap number_of months ∙ number_of-last_digits 2 m' hm'),
-     sym (number_of-last_digits 2 d hd) ∙ (ap number_of days ∙ number_of-last_digits 2 d' hd'))
+    let days : last_digits 2 d ≡ last_digits 2 d' = ap (drop 8) e in (
+      sym (number_of-last_digits 4 y hy) ∙ (ap number_of years ∙ number_of-last_digits 4 y' hy'),
+      sym (number_of-last_digits 2 m hm) ∙ (ap number_of months ∙ number_of-last_digits 2 m' hm'),
+      sym (number_of-last_digits 2 d hd) ∙ (ap number_of days ∙ number_of-last_digits 2 d' hd'),
+    )
 
 month_short : (year month : ℕ) → days_in_month year month < 100
 month_short year month = grind arith

@@ -1,13 +1,13 @@
 -- What a text that spells a decimal is made of.
-use Rattle.std.proofs.Common.{◌≡◌, ◌≢◌, ◌<◌, ◌≤◌, ◌^◌, ◌-◌, ℕ, zero, suc, ℤ, pos, negsuc, neg_ℤ, unsigned_abs, Bool, true, false, cond, nat_lt, ◌==◌, List, [], ◌∷◌, ◌++◌, length, drop, refl, sym, ap, subst, ◌∙◌, ltb-true, lt-ltb, inl, inr, Option, Some, None, MatchOption, arith, rules}
+use Rattle.std.proofs.Common.{◌≡◌, ◌≢◌, ◌<◌, ◌≤◌, ◌^◌, ℕ, ℤ, pos, neg_ℤ, unsigned_abs, true, false, cond, nat_lt, ◌==◌, List, [], ◌∷◌, ◌++◌, drop, refl, sym, ap, subst, ◌∙◌, ltb-true, lt-ltb, arith}
 use Rattle.std.specs.Cmp.{first_so, second_so}
 use Rattle.std.specs.Char.{is_ascii_digit}
 use Rattle.std.specs.List.{list_all}
 use Rattle.std.specs.Str.{all_ascii_digits}
 use Rattle.std.specs.Str.Parse.{starts_with_minus, without_leading_sign}
 use Rattle.std.proofs.Math.Nat.{pow-le-pow_right}
-use Rattle.ds_value.specs.Spellings.{Sign, sign_text, signed, IsNumeral, number_of, point_text, scaled, SpellsDec}
-use Rattle.ds_value.proofs.Signs.{is_minus, signed-cond, numeral_begins, begins_more, sign_of, sign_split, sign_front}
+use Rattle.ds_value.specs.Spellings.{sign_text, signed, IsNumeral, number_of, point_text, scaled, SpellsDec}
+use Rattle.ds_value.proofs.Signs.{signed-cond, numeral_begins, begins_more, sign_of, sign_split, sign_front}
 use Rattle.ds_value.proofs.Wholes.{size_of}
 use Rattle.ds_value.proofs.Decimals.{AreUnits}
 
@@ -85,6 +85,6 @@ dec_spelled p s n bytes whole fraction z e units value below ez =
       numeral = units.0;
       digits = units.1;
       zeros = units.2;
-      value = ez ∙ (ap (λ m. cond m (neg_ℤ (pos n)) (pos n)) (sym split.1) ∙ (sym (signed-cond (sign_of bytes) n) ∙ ap (signed (sign_of bytes)) value))
+      value = ez ∙ (ap (λ m. cond m (neg_ℤ (pos n)) (pos n)) (sym split.1) ∙ (sym (signed-cond (sign_of bytes) n) ∙ ap (signed (sign_of bytes)) value));
     } in
     (spelled, lt-ltb _ _ (rw (ez, size_of (starts_with_minus bytes) n) below))

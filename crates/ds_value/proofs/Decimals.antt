@@ -1,5 +1,5 @@
 -- Digits, a point and digits.
-use Rattle.std.proofs.Common.{◌≡◌, ◌≢◌, ◌<◌, ◌≤◌, ℕ, zero, suc, ◌+◌, ◌-◌, ◌*◌, ◌^◌, min, ℤ, pos, neg_ℤ, unsigned_abs, Bool, true, false, cond, ◌&&◌, eqb, ◌==◌, eqb-true, nat_lt, List, [], ◌∷◌, ◌++◌, length, take, drop, get_or, replicate, refl, sym, ap, subst, ◌∙◌, inl, inr, Option, Some, None, arith, rules, drop-cons, length-append, length-drop, append_assoc, add-one}
+use Rattle.std.proofs.Common.{◌≡◌, ◌≢◌, ◌<◌, ◌≤◌, ℕ, zero, suc, ◌+◌, ◌-◌, ◌*◌, ◌^◌, min, Bool, true, false, cond, ◌==◌, eqb-true, List, [], ◌∷◌, ◌++◌, length, take, drop, get_or, replicate, refl, sym, ap, ◌∙◌, inl, inr, Option, Some, None, arith, drop-cons, length-append, length-drop, add-one}
 use Rattle.std.specs.Cmp.{first_so, second_so}
 use Rattle.std.specs.Char.{is_ascii_digit}
 use Rattle.std.specs.List.{take_while, list_all}

@@ -1,11 +1,11 @@
 -- The last digits of a number, and the number that they write.
-use Rattle.std.proofs.Common.{◌≡◌, ◌<◌, ◌≤◌, ℕ, zero, suc, ◌+◌, ◌-◌, ◌*◌, ◌/◌, ◌%◌, ◌^◌, Bool, true, false, ◌&&◌, List, [], ◌∷◌, ◌++◌, length, refl, sym, ap, subst, ◌∙◌, arith, length-append, append_assoc, nat_le, leb-true, le-leb}
+use Rattle.std.proofs.Common.{◌≡◌, ◌<◌, ◌≤◌, ℕ, zero, suc, ◌+◌, ◌-◌, ◌*◌, ◌/◌, ◌%◌, ◌^◌, true, List, [], ◌∷◌, ◌++◌, length, refl, ◌∙◌, arith, length-append, append_assoc, nat_le, leb-true, le-leb}
 use Rattle.std.specs.Cmp.{first_so, second_so}
 use Rattle.std.specs.Char.{is_ascii_digit}
 use Rattle.std.specs.Str.{all_ascii_digits}
 use Rattle.std.proofs.lemmas.List.{append-nil}
 use Rattle.std.proofs.Math.Nat.{pow-succ'}
-use Rattle.ds_value.specs.Spellings.{number_behind, number_of, last_digits, IsNumeral}
+use Rattle.ds_value.specs.Spellings.{number_behind, number_of, last_digits}
 use Rattle.ds_value.proofs.Numerals.{number_behind-append, all_ascii_digits-append}
 
 pub length-last_digits : (k n : ℕ) → length (last_digits k n) ≡ k

@@ -1,10 +1,10 @@
 -- Digits, and the numbers that they write.
-use Rattle.std.proofs.Common.{◌≡◌, ◌≢◌, ◌<◌, ◌≤◌, ℕ, zero, suc, ◌+◌, ◌-◌, ◌*◌, ◌^◌, Bool, true, false, cond, ◌&&◌, List, [], ◌∷◌, ◌++◌, length, take, drop, get_or, replicate, refl, sym, ap, subst, ◌∙◌, arith, rules, drop-cons}
-use Rattle.std.specs.Cmp.{first_so, second_so}
+use Rattle.std.proofs.Common.{◌≡◌, ◌<◌, ◌≤◌, ℕ, suc, ◌+◌, ◌-◌, ◌*◌, true, false, ◌&&◌, List, [], ◌∷◌, ◌++◌, length, drop, get_or, refl, arith, rules, drop-cons}
+use Rattle.std.specs.Cmp.{first_so}
 use Rattle.std.specs.Char.{is_ascii_digit}
 use Rattle.std.specs.Str.{all_ascii_digits}
 use Rattle.std.proofs.lemmas.Str.Parse.{IsNumeralModel, numerals_by_fold, tells_all_ascii_digits}
-use Rattle.ds_value.specs.Spellings.{number_behind, number_of, IsNumeral}
+use Rattle.ds_value.specs.Spellings.{number_behind, number_of}
 
 pub own : IsNumeralModel (λ ds. all_ascii_digits ds ≡ true) number_of
 own = numerals_by_fold _ tells_all_ascii_digits number_behind (search rules)

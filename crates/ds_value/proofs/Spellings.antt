@@ -1,20 +1,19 @@
 -- A text spells one value of a kind at most, and the written text spells the value.
-use Rattle.std.proofs.Common.{◌≡◌, ◌≢◌, ◌<◌, ◌≤◌, ◌⊎◌, ◌^◌, ◌+◌, ◌-◌, ℕ, zero, suc, ℤ, pos, negsuc, neg_ℤ, unsigned_abs, Bool, true, false, cond, nat_lt, nat_le, ltb-true, leb-true, eqb, eqb-true, ◌==◌, List, [], ◌∷◌, ◌++◌, length, take, drop, replicate, refl, sym, ap, subst, ◌∙◌, inl, inr, arith, rules, length-append, length-take, length-drop, ◌&&◌}
+use Rattle.std.proofs.Common.{◌≡◌, ◌<◌, ◌≤◌, ◌^◌, ◌+◌, ◌-◌, ℕ, zero, suc, ℤ, pos, negsuc, neg_ℤ, unsigned_abs, Bool, true, false, cond, nat_lt, nat_le, ltb-true, eqb-true, ◌==◌, List, [], ◌∷◌, ◌++◌, length, take, drop, replicate, refl, sym, ap, subst, ◌∙◌, arith, length-append, length-take, length-drop}
 use Rattle.std.proofs.lemmas.Fmt.{decimal_is_IsNumeral_wide}
 use Rattle.std.specs.Cmp.{first_so, second_so}
 use Rattle.std.proofs.Math.ListN.{drop_of_length-le, length-replicate}
 use Rattle.std.proofs.lemmas.List.{take-append-drop, take_all, append-nil}
 use Rattle.std.specs.Fmt.{decimal, signed_decimal}
 use Rattle.std.specs.Str.{all_ascii_digits}
-use Rattle.std.specs.Str.Parse.{without_leading_sign}
 use Rattle.ds_value.specs.declared.kind.Kind.{Kind}
 use Rattle.ds_value.specs.declared.kind.Kind.TheVariants as kind
 use Rattle.ds_value.specs.declared.value.Value.{Value}
-use Rattle.ds_value.specs.declared.value.Value.TheVariants.{Null, Int, UInt, Dec, Text, Date}
-use Rattle.ds_value.specs.Kinds.{IsKind, IsBits, fits_kind, is_between}
+use Rattle.ds_value.specs.declared.value.Value.TheVariants.{Int, UInt, Dec, Text, Date}
+use Rattle.ds_value.specs.Kinds.{IsKind, fits_kind, is_between}
 use Rattle.ds_value.specs.Calendar.{year_of, month_of, day_of}
 use Rattle.std.proofs.Math.Nat.{pow-le-pow_right}
-use Rattle.ds_value.specs.Spellings.{Sign, Missing, Plus, Minus, sign_text, signed, IsNumeral, number_of, SpellsInt, SpellsUInt, SpellsDec, SpellsDate, date_text, HasForm, Spells, written, number_behind, pointed, scaled_digits, minus_text, filled, scaled}
+use Rattle.ds_value.specs.Spellings.{Sign, Missing, Minus, sign_text, signed, IsNumeral, number_of, SpellsInt, SpellsUInt, SpellsDec, SpellsDate, date_text, HasForm, Spells, written, number_behind, pointed, scaled_digits, minus_text, filled, scaled}
 use Rattle.ds_value.proofs.Numerals.{own, number_behind-append, all_ascii_digits-append}
 use Rattle.ds_value.proofs.Decimals.{number_behind-zeros}
 use Rattle.ds_value.proofs.Wholes.{int_parts, uint_parts, int_within, uint_within}
@@ -113,7 +112,7 @@ digits_pointed s sign ds bytes h each text =
       numeral = record { some = omega (arith, length-take (length ds - s) ds); each = first_so (all_ascii_digits whole) (all_ascii_digits fraction) both };
       digits = second_so (all_ascii_digits whole) (all_ascii_digits fraction) both;
       zeros = rw none refl;
-      value = ap (λ (digits : List ℕ). signed sign (number_of digits)) (sym again)
+      value = ap (λ (digits : List ℕ). signed sign (number_of digits)) (sym again);
     }
 
 scaled_digits_are : (s n : ℕ) → n < 10 ^ 64 → (s < length (scaled_digits s n)) × (all_ascii_digits (scaled_digits s n) ≡ true) × (number_of (scaled_digits s n) ≡ n)

@@ -1,11 +1,10 @@
 -- What a text that spells a whole number is made of.
-use Rattle.std.proofs.Common.{◌≡◌, ◌≢◌, ◌<◌, ◌≤◌, ◌^◌, ◌-◌, ℕ, zero, suc, ℤ, pos, negsuc, neg_ℤ, unsigned_abs, FitsSigned, w64, Bool, true, false, cond, nat_lt, List, [], ◌∷◌, ◌++◌, length, refl, sym, ap, subst, ◌∙◌, inl, inr, Option, Some, None, MatchOption, arith, rules}
+use Rattle.std.proofs.Common.{◌≡◌, ◌≢◌, ◌<◌, ◌^◌, ℕ, zero, suc, ℤ, pos, neg_ℤ, unsigned_abs, FitsSigned, w64, Bool, true, false, cond, nat_lt, List, ◌++◌, refl, sym, ap, subst, ◌∙◌, inl, inr, Option, Some, None, MatchOption, arith}
 use Rattle.std.specs.Option.{SomeIff}
-use Rattle.std.specs.Str.{all_ascii_digits}
 use Rattle.std.specs.Str.Parse.{starts_with_minus, without_leading_sign}
 use Rattle.std.proofs.lemmas.Int.{ints}
 use Rattle.ds_value.specs.Kinds.{IsBits, is_between, least_int, greatest_int}
-use Rattle.ds_value.specs.Spellings.{Sign, Missing, Plus, Minus, sign_text, signed, IsNumeral, number_of, SpellsInt, SpellsUInt}
+use Rattle.ds_value.specs.Spellings.{Sign, Missing, Plus, Minus, sign_text, IsNumeral, number_of, SpellsInt, SpellsUInt}
 use Rattle.ds_value.proofs.Signs.{is_minus, signed-cond, numeral_begins, sign_of, sign_split, sign_front}
 
 -- the number that a text of a sign and digits stands for
@@ -31,7 +30,7 @@ int_spelled bytes h =
       digits = without_leading_sign bytes;
       text = split.0;
       numeral = h;
-      value = sym (signed-cond (sign_of bytes) (number_of (without_leading_sign bytes)) ∙ ap (λ m. cond m (neg_ℤ (pos (number_of (without_leading_sign bytes)))) (pos (number_of (without_leading_sign bytes)))) split.1)
+      value = sym (signed-cond (sign_of bytes) (number_of (without_leading_sign bytes)) ∙ ap (λ m. cond m (neg_ℤ (pos (number_of (without_leading_sign bytes)))) (pos (number_of (without_leading_sign bytes)))) split.1);
     }
 
 not_minus : (s : Sign) → s ≢ Minus → is_minus s ≡ false
@@ -58,7 +57,7 @@ uint_spelled bytes m h =
       no_minus = minus_or_not (sign_of bytes) (split.1 ∙ m);
       text = split.0;
       numeral = h;
-      value = refl
+      value = refl;
     }
 
 at_eight : (z : ℤ) → is_between (least_int 8) (greatest_int 8) z ≡ true → FitsSigned w64 z

@@ -6,7 +6,7 @@ use Rattle.ds_value.specs.declared.value.Value.{Value}
 use Rattle.ds_value.specs.Calendar.{IsDate, day_number, year_of, month_of, day_of}
 use Rattle.ds_value.specs.Canonical.{canonical_bytes, IsHeld, IsShort}
 use Rattle.ds_value.specs.Kinds.{IsKind, fits_kind}
-use Rattle.ds_value.specs.Spellings.{Spells, SpellsDate, date_text, written}
+use Rattle.ds_value.specs.Spellings.{Spells, written}
 use Rattle.ds_value.specs.Values.{value_cmp}
 
 -- a text spells one value of a kind at most

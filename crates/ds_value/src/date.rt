@@ -19,9 +19,7 @@ fn number_in(digits: &[u8]) -> Option<u16>
 
 /// The year, the month and the day of a date's text, whether the calendar has the date or not.
 fn date_parts(bytes: &[u8]) -> Option<(u16, u8, u8)>
-    ensures {
-        MatchOption result ((year month day : ℕ) → year < 10000 → month < 100 → day < 100 → bytes.now ≢ date_text year month day) (λ p. (p.0 < 10000) × (p.1 < 100) × (p.2 < 100) × (bytes.now ≡ date_text p.0 p.1 p.2))
-    }
+    ensures { MatchOption result ((year month day : ℕ) → year < 10000 → month < 100 → day < 100 → bytes.now ≢ date_text year month day) (λ p. (p.0 < 10000) × (p.1 < 100) × (p.2 < 100) × (bytes.now ≡ date_text p.0 p.1 p.2)) }
 {
     if bytes.len() != 10 || bytes[4] != b'-' || bytes[7] != b'-' {
         return None;
@@ -37,9 +35,7 @@ fn civil_day(year: u16, month: u8, day: u8) -> Option<i32>
     requires year { year < 10000 }
     requires month { month < 100 }
     requires day { day < 100 }
-    ensures {
-        MatchOption result (¬ (IsDate year month day)) (λ n. IsDate year month day × (n ≡ day_number year month day))
-    }
+    ensures { MatchOption result (¬ (IsDate year month day)) (λ n. IsDate year month day × (n ≡ day_number year month day)) }
 {
     if year == 0 {
         return None;
@@ -52,9 +48,7 @@ fn civil_day(year: u16, month: u8, day: u8) -> Option<i32>
 
 /// The day that the bytes spell.
 pub fn read_date(bytes: &[u8]) -> Option<i32>
-    ensures {
-        MatchOption result ((number : ℤ) → ¬ (SpellsDate bytes.now number)) (λ number. SpellsDate bytes.now number)
-    }
+    ensures { MatchOption result ((number : ℤ) → ¬ (SpellsDate bytes.now number)) (λ number. SpellsDate bytes.now number) }
 {
     let (year, month, day) = date_parts(bytes)?;
     civil_day(year, month, day)

@@ -12,15 +12,16 @@ fn digit_count(bytes: &[u8]) -> usize
     ensures count { result ≡ length (take_while is_ascii_digit bytes.now) }
     ensures within { result ≤ length bytes.now }
 {
-    bytes.iter().take_while(|byte| byte.is_ascii_digit()).count()
+    bytes
+        .iter()
+        .take_while(|byte| byte.is_ascii_digit())
+        .count()
 }
 
 /// The digits before a point, and what stands behind it. None where no point follows
 /// the digits, or nothing follows the point.
 fn split_point(bytes: &[u8]) -> Option<(&[u8], &[u8])>
-    ensures {
-        MatchOption result ((whole fraction : List ℕ) → all_ascii_digits whole ≡ true → bytes.now ≢ whole ++ point_text fraction) (λ p. (all_ascii_digits p.0.now ≡ true) × (bytes.now ≡ p.0.now ++ point_text p.1.now))
-    }
+    ensures { MatchOption result ((whole fraction : List ℕ) → all_ascii_digits whole ≡ true → bytes.now ≢ whole ++ point_text fraction) (λ p. (all_ascii_digits p.0.now ≡ true) × (bytes.now ≡ p.0.now ++ point_text p.1.now)) }
 {
     let count = digit_count(bytes);
     if count == bytes.len() {
@@ -54,9 +55,7 @@ fn are_zeros(digits: &[u8]) -> bool
 /// The units of 10 ^ -s that the digits write, where they are below 10 ^ 38.
 fn units(s: u8, whole: &[u8], fraction: &[u8]) -> Option<u128>
     requires { s ≤ 38 }
-    ensures {
-        SomeIff result (IsNumeral whole.now × (all_ascii_digits fraction.now ≡ true) × (list_all (λ digit. digit == 48) (drop s fraction.now) ≡ true) × (number_of (whole.now ++ scaled s fraction.now) < 10 ^ 38)) (number_of (whole.now ++ scaled s fraction.now))
-    }
+    ensures { SomeIff result (IsNumeral whole.now × (all_ascii_digits fraction.now ≡ true) × (list_all (λ digit. digit == 48) (drop s fraction.now) ≡ true) × (number_of (whole.now ++ scaled s fraction.now) < 10 ^ 38)) (number_of (whole.now ++ scaled s fraction.now)) }
 {
     let kept = fraction.len().min(usize::from(s));
     if !are_zeros(&fraction[kept..]) {
@@ -70,9 +69,7 @@ fn units(s: u8, whole: &[u8], fraction: &[u8]) -> Option<u128>
 pub fn read_decimal(p: u8, s: u8, bytes: &[u8]) -> Option<i128>
     requires digits { p ≤ 38 }
     requires scale { s ≤ 38 }
-    ensures {
-        MatchOption result ((z : ℤ) → SpellsDec s bytes.now z → nat_lt (unsigned_abs z) (10 ^ p) ≡ true → ⊥) (λ z. SpellsDec s bytes.now z × (nat_lt (unsigned_abs z) (10 ^ p) ≡ true))
-    }
+    ensures { MatchOption result ((z : ℤ) → SpellsDec s bytes.now z → nat_lt (unsigned_abs z) (10 ^ p) ≡ true → ⊥) (λ z. SpellsDec s bytes.now z × (nat_lt (unsigned_abs z) (10 ^ p) ≡ true)) }
 {
     let (minus, rest) = split_sign(bytes);
     let (whole, fraction) = split_point(rest)?;

@@ -7,23 +7,19 @@ ghost use Rattle.ds_value.specs.Laws.{TextSpellsOneValue, WrittenTextSpells, Day
 pub fn spellings_are_exact()
     ensures one { TextSpellsOneValue }
     ensures written { WrittenTextSpells }
-{
-}
+{}
 
 pub fn days_and_dates_agree()
     ensures dates { DaysHaveDates }
     ensures days { DatesHaveDays }
-{
-}
+{}
 
 pub fn canonical_bytes_differ()
     ensures differ { CanonicalBytesDiffer }
     ensures held { FittingValuesAreHeld }
-{
-}
+{}
 
 pub fn value_order_is_total()
     ensures total { IsTotalOrder value_cmp }
     ensures exact { EqualValuesAreOne }
-{
-}
+{}

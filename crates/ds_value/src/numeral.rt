@@ -5,7 +5,6 @@ ghost use Rattle.std.specs.Str.Parse.{starts_with_minus, without_leading_sign};
 ghost use Rattle.ds_value.specs.Kinds.{IsBits, is_between, least_int, greatest_int};
 ghost use Rattle.ds_value.specs.Spellings.{number_behind, number_of, IsNumeral, SpellsInt, SpellsUInt};
 
-
 use crate::kind::{fits_int, fits_uint};
 
 /// 10 ^ 37
@@ -26,9 +25,7 @@ pub fn split_sign(bytes: &[u8]) -> (bool, &[u8])
 /// The number that the digits write behind those of `so_far`, where it stays below 10 ^ 38.
 pub fn number_behind(so_far: u128, digits: &[u8]) -> Option<u128>
     requires { so_far < 10 ^ 38 }
-    ensures {
-        SomeIff result ((all_ascii_digits digits.now ≡ true) × (number_behind so_far digits.now < 10 ^ 38)) (number_behind so_far digits.now)
-    }
+    ensures { SomeIff result ((all_ascii_digits digits.now ≡ true) × (number_behind so_far digits.now < 10 ^ 38)) (number_behind so_far digits.now) }
 {
     let mut number = so_far;
     for digit in digits {
@@ -42,9 +39,7 @@ pub fn number_behind(so_far: u128, digits: &[u8]) -> Option<u128>
 
 /// The number that one or more digits write, where it is below 10 ^ 38.
 pub fn number_of(digits: &[u8]) -> Option<u128>
-    ensures {
-        SomeIff result (IsNumeral digits.now × (number_of digits.now < 10 ^ 38)) (number_of digits.now)
-    }
+    ensures { SomeIff result (IsNumeral digits.now × (number_of digits.now < 10 ^ 38)) (number_of digits.now) }
 {
     if digits.is_empty() {
         return None;
@@ -65,9 +60,7 @@ pub fn signed(minus: bool, number: u128) -> i128
 
 fn fit_int(bits: u8, number: i128) -> Option<i64>
     requires { IsBits bits }
-    ensures {
-        SomeIff result (is_between (least_int bits) (greatest_int bits) number ≡ true) number
-    }
+    ensures { SomeIff result (is_between (least_int bits) (greatest_int bits) number ≡ true) number }
 {
     match i64::try_from(number) {
         Ok(int) if fits_int(bits, int) => Some(int),
@@ -88,9 +81,7 @@ fn fit_uint(bits: u8, number: u128) -> Option<u64>
 /// The signed number of so many bits that the bytes spell.
 pub fn read_int(bits: u8, bytes: &[u8]) -> Option<i64>
     requires { IsBits bits }
-    ensures {
-        MatchOption result ((z : ℤ) → SpellsInt bytes.now z → is_between (least_int bits) (greatest_int bits) z ≡ true → ⊥) (λ z. SpellsInt bytes.now z × (is_between (least_int bits) (greatest_int bits) z ≡ true))
-    }
+    ensures { MatchOption result ((z : ℤ) → SpellsInt bytes.now z → is_between (least_int bits) (greatest_int bits) z ≡ true → ⊥) (λ z. SpellsInt bytes.now z × (is_between (least_int bits) (greatest_int bits) z ≡ true)) }
 {
     let (minus, digits) = split_sign(bytes);
     let number = number_of(digits)?;
@@ -100,9 +91,7 @@ pub fn read_int(bits: u8, bytes: &[u8]) -> Option<i64>
 /// The unsigned number of so many bits that the bytes spell.
 pub fn read_uint(bits: u8, bytes: &[u8]) -> Option<u64>
     requires { IsBits bits }
-    ensures {
-        MatchOption result ((n : ℕ) → SpellsUInt bytes.now n → nat_lt n (2 ^ bits) ≡ true → ⊥) (λ n. SpellsUInt bytes.now n × (nat_lt n (2 ^ bits) ≡ true))
-    }
+    ensures { MatchOption result ((n : ℕ) → SpellsUInt bytes.now n → nat_lt n (2 ^ bits) ≡ true → ⊥) (λ n. SpellsUInt bytes.now n × (nat_lt n (2 ^ bits) ≡ true)) }
 {
     let (minus, digits) = split_sign(bytes);
     if minus {

@@ -42,9 +42,7 @@ fn fill(alloc: Global, max: usize, bytes: &[u8]) -> Result<Bytes, NoMemory>
 
 fn read_bytes(alloc: Global, max: usize, fixed: bool, bytes: &[u8]) -> Result<Bytes, NoMemory>
     requires { length bytes.now ≤ max }
-    ensures {
-        IfOk result (λ text. text ≡ (if fixed then filled max bytes.now else bytes.now))
-    }
+    ensures { IfOk result (λ text. text ≡ (if fixed then filled max bytes.now else bytes.now)) }
 {
     if fixed {
         return fill(alloc, max, bytes);
@@ -56,9 +54,7 @@ fn read_bytes(alloc: Global, max: usize, fixed: bool, bytes: &[u8]) -> Result<By
 pub fn read_text(alloc: Global, kind: &Kind, bytes: &[u8]) -> Result<Value, TextFault>
     requires { IsKind kind.now }
     ensures found { IfOk result (λ value. Spells kind.now bytes.now value) }
-    ensures bad {
-        result ≡ Err TextFault.Bad → (value : Cell) → Spells kind.now bytes.now value → ⊥
-    }
+    ensures bad { result ≡ Err TextFault.Bad → (value : Cell) → Spells kind.now bytes.now value → ⊥ }
 {
     match kind {
         Kind::Int(bits) => match read_int(*bits, bytes) {

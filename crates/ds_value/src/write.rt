@@ -13,9 +13,7 @@ const ZEROS: [u8; 38] = [b'0'; 38];
 fn push_pointed(s: usize, digits: &[u8], into: &mut Bytes) -> Result<(), NoMemory>
     requires scale { s ≤ 38 }
     requires some { 1 ≤ length digits.now }
-    ensures ok {
-        OnOk result (into.new ≡ into.old ++ pointed s (replicate (s + 1 - length digits.now) 48 ++ digits.now))
-    }
+    ensures ok { OnOk result (into.new ≡ into.old ++ pointed s (replicate (s + 1 - length digits.now) 48 ++ digits.now)) }
     ensures err { OnErr result (take (length into.old) into.new ≡ into.old) }
 {
     if digits.len() <= s {
@@ -34,9 +32,7 @@ fn push_pointed(s: usize, digits: &[u8], into: &mut Bytes) -> Result<(), NoMemor
 
 fn push_decimal(s: usize, units: i128, into: &mut Bytes) -> Result<(), NoMemory>
     requires scale { s ≤ 38 }
-    ensures ok {
-        OnOk result (into.new ≡ into.old ++ (minus_text units ++ pointed s (scaled_digits s (unsigned_abs units))))
-    }
+    ensures ok { OnOk result (into.new ≡ into.old ++ (minus_text units ++ pointed s (scaled_digits s (unsigned_abs units)))) }
     ensures err { OnErr result (take (length into.old) into.new ≡ into.old) }
 {
     if units < 0 {
@@ -48,9 +44,7 @@ fn push_decimal(s: usize, units: i128, into: &mut Bytes) -> Result<(), NoMemory>
 
 fn write_decimal(s: u8, units: i128, into: &mut Bytes) -> Result<(), NoMemory>
     requires scale { s ≤ 38 }
-    ensures ok {
-        OnOk result (into.new ≡ into.old ++ (minus_text units ++ pointed s (scaled_digits s (unsigned_abs units))))
-    }
+    ensures ok { OnOk result (into.new ≡ into.old ++ (minus_text units ++ pointed s (scaled_digits s (unsigned_abs units)))) }
     ensures err { OnErr result (into.new ≡ into.old) }
 {
     let before = into.as_slice().len();

@@ -1,8 +1,7 @@
-use Rattle.std.proofs.Common.{rules, ◌≡◌, ◌∙◌, ap, ℤ, List, [], ◌++◌, ◌∷◌, append_assoc, FitsSigned, to_z, of_z}
+use Rattle.std.proofs.Common.{rules, ◌≡◌, ◌∙◌, ap, [], ◌∷◌, append_assoc, FitsSigned, of_z}
 use Rattle.std.specs.Int.{w128, to_be_bytes}
 use Rattle.std.proofs.lemmas.Int.{to_z-of_z}
 use Rattle.std.proofs.lemmas.Result.{on_ok_weaker}
-use Rattle.ds_value.specs.Canonical.{canonical_bytes}
 use Rattle.ds_value.proofs.canonical_form.push_canonical.Goals as goal
 
 pub returns-in_ok-push-in-Dec-clause-ok : goal.returns-in_ok-push-in-Dec-clause-ok

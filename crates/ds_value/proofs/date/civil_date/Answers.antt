@@ -1,7 +1,6 @@
-use Rattle.std.proofs.Common.{rules, ◌≡◌, ◌∙◌, ap, sym, ◌≤ℤ◌, ◌<◌, ◌≤◌, ◌^◌, ℕ, ℤ, pos, unsigned_abs, FitsSigned, to_z, of_z, w8, w16, w32, w64, arith}
-use Rattle.std.proofs.lemmas.Int.{ints, to_z-of_z, to_z_pos}
-use Rattle.jiff_core.specs.Date.{epoch_day}
-use Rattle.ds_value.specs.Calendar.{year_of, month_of, day_of}
+use Rattle.std.proofs.Common.{rules, ◌≡◌, ◌∙◌, ap, pos, unsigned_abs, FitsSigned, w8, w16, arith}
+use Rattle.std.proofs.lemmas.Int.{ints, to_z-of_z}
+use Rattle.ds_value.specs.Calendar.{year_of}
 use Rattle.ds_value.proofs.DateTexts.{parts_of_number, is_day_number}
 use Rattle.ds_value.proofs.date.civil_date.Goals as goal
 

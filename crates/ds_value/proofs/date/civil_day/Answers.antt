@@ -1,4 +1,4 @@
-use Rattle.std.proofs.Common.{rules, ◌≡◌, ◌∙◌, ap, ◌<◌, ◌≤◌, ◌^◌, pos, FitsSigned, to_z, of_z, w8, w16, w32, arith}
+use Rattle.std.proofs.Common.{rules, ◌∙◌, ap, FitsSigned, w8, w16, w32, arith}
 use Rattle.std.proofs.lemmas.Int.{to_z-of_z, to_z_pos}
 use Rattle.jiff_core.specs.Date.{epoch_day}
 use Rattle.ds_value.proofs.DateTexts.{civil_found}

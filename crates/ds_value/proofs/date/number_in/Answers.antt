@@ -1,5 +1,4 @@
-use Rattle.std.proofs.Common.{◌≡◌, ◌<◌, Fits, w16, arith}
-use Rattle.ds_value.specs.Spellings.{number_of, IsNumeral}
+use Rattle.std.proofs.Common.{arith}
 use Rattle.ds_value.proofs.DateTexts.{small_number, is_small}
 use Rattle.ds_value.proofs.date.number_in.Goals as goal
 

@@ -1,8 +1,6 @@
-use Rattle.std.proofs.Common.{rules, ◌≡◌, ◌<◌, ◌≤◌, ◌^◌, ℤ, pos, neg_ℤ, cond, sym, ◌∙◌, ap, subst, arith, FitsSigned, nat_lt, unsigned_abs, true, Bool}
+use Rattle.std.proofs.Common.{rules, pos, neg_ℤ, cond, sym, ◌∙◌, ap, arith, FitsSigned}
 use Rattle.std.specs.Int.{w128}
-use Rattle.std.specs.Str.Parse.{starts_with_minus, without_leading_sign}
 use Rattle.std.proofs.lemmas.Int.{to_z-of_z}
-use Rattle.ds_value.specs.Spellings.{SpellsDec}
 use Rattle.ds_value.proofs.DecimalTexts.{no_parts, no_units, too_great, dec_spelled}
 use Rattle.ds_value.proofs.decimal.read_decimal.Goals as goal
 

@@ -1,4 +1,4 @@
-use Rattle.std.proofs.Common.{◌≡◌, ◌<◌, ◌+◌, length, arith}
+use Rattle.std.proofs.Common.{◌<◌, ◌+◌, length, arith}
 use Rattle.ds_value.proofs.Decimals.{counted_digits, all_counted, whole_alone, point_at, point_split}
 use Rattle.ds_value.proofs.decimal.split_point.Goals as goal
 use Rattle.ds_value.proofs.decimal.split_point.Goals.{then-bytes-count-ne46-via-then-bytes-count-ne46, then-bytes-count-ne46-via-else-bytes-count-ne46+then-count-bytes-2}

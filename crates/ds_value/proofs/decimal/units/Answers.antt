@@ -1,4 +1,4 @@
-use Rattle.std.proofs.Common.{rules, ◌≡◌, min, length, sym, ◌∙◌, ap, arith}
+use Rattle.std.proofs.Common.{min, length, sym, ◌∙◌, ap}
 use Rattle.ds_value.proofs.Decimals.{no_whole, no_fraction, units_found}
 use Rattle.ds_value.proofs.decimal.units.Goals as goal
 

@@ -1,4 +1,4 @@
-use Rattle.std.proofs.Common.{◌≡◌, ◌∙◌, arith}
+use Rattle.std.proofs.Common.{◌∙◌, arith}
 use Rattle.ds_value.proofs.Numerals.{digit_at}
 use Rattle.ds_value.proofs.numeral.number_behind.Goals as goal
 use Rattle.ds_value.proofs.numeral.number_behind.Goals.{then-not-is_ascii_digit-via-then-not-is_ascii_digit, then-not-is_ascii_digit-via-else-not-is_ascii_digit+then-number-ge-TENTH}

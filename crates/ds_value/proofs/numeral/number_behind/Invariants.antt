@@ -8,5 +8,5 @@ abbrev pub invariant-loop-digit : goal.invariant-loop-digit
 invariant-loop-digit l = record {
   digits : all_ascii_digits (drop l.digit-index l.digits) ≡ all_ascii_digits l.digits;
   number : number_behind l.number (drop l.digit-index l.digits) ≡ number_behind l.fn.so_far l.digits;
-  below : l.number < 10 ^ 38
+  below : l.number < 10 ^ 38;
 }

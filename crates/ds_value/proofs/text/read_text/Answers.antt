@@ -1,7 +1,5 @@
-use Rattle.std.proofs.Common.{rules, ◌≡◌, sym, subst, FitsSigned, to_z, of_z, w32}
+use Rattle.std.proofs.Common.{rules, FitsSigned, w32}
 use Rattle.std.proofs.lemmas.Int.{to_z-of_z}
-use Rattle.ds_value.specs.declared.value.Value.TheVariants.{Date}
-use Rattle.ds_value.specs.Spellings.{Spells}
 use Rattle.ds_value.proofs.DateTexts.{spelled_in_range}
 use Rattle.ds_value.proofs.text.read_text.Goals as goal
 

@@ -1,6 +1,5 @@
-use Rattle.std.proofs.Common.{◌≡◌, ◌∙◌, ap, sym, rules, subst, ◌<◌, ◌≤◌, ◌^◌, ◌++◌, ℕ, List, [], ◌∷◌, length, take, arith}
-use Rattle.std.specs.Result.{OnErr}
-use Rattle.std.proofs.lemmas.Result.{on_ok_weaker, on_err_weaker}
+use Rattle.std.proofs.Common.{◌∙◌, ap, [], ◌∷◌, length, arith}
+use Rattle.std.proofs.lemmas.Result.{on_err_weaker}
 use Rattle.ds_value.proofs.Pointed.{decimal_some, kept_front}
 use Rattle.ds_value.proofs.write.push_decimal.Goals as goal
 use Rattle.ds_value.proofs.write.push_decimal.Goals.{then-units-lt0+in_ok-push, else-units-lt0}

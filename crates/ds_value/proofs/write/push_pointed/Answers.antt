@@ -1,4 +1,3 @@
-use Rattle.std.proofs.Common.{◌≡◌}
 use Rattle.std.proofs.lemmas.Result.{on_ok_weaker}
 use Rattle.ds_value.proofs.Pointed.{appended_few}
 use Rattle.ds_value.proofs.write.push_pointed.Goals as goal
