@@ -1,0 +1,15 @@
+//! The options of operators: their table, the forms of their values, and the operators that they make.
+#![tactic(auto)]
+
+mod key_list;
+mod link_method;
+mod table;
+mod why;
+
+pub use key_list::{keys, name, names, refuse};
+pub use link_method::method;
+pub use table::{
+    Form, OpName, OptName, OptionRow, number_of, operator_named, operator_word, option_number,
+    option_word, row_named, rows,
+};
+pub use why::OshWhy;
