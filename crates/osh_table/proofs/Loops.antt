@@ -8,6 +8,7 @@ use Rattle.ds_lex.specs.declared.refusal.Stop.TheVariants as stop
 use Rattle.ds_lex.specs.Lexemes.{Lexeme}
 use Rattle.ds_lex.specs.Reading.{◌>>=◌, accept_at, Fails}
 use Rattle.osh_table.specs.Reading.{names_at, fresh_name_at, keys_at, key_at}
+use Rattle.osh_table.specs.ValueTokens.{pairs_at, pair_at, widths_at, width_at}
 
 -- a reader that fails fails with whatever follows
 pub fails_bind : {W A B : Type 0} → (e : Stop W) (read : Result A (Refusal W)) (f : A → Result B (Refusal W)) → Fails e read → Fails e (read >>= f)
@@ -51,3 +52,41 @@ keys_last n found ts r s k h e m = rw (keys_more n found ts h, e, m) refl
 
 pub keys_next : (n : ℕ) (found : List (List ℕ × Bool)) (ts r s : List Lexeme) (k : List ℕ × Bool) → n ≢ 0 → key_at found ts ≡ Ok (k, r) → accept_at (codes ",") r ≡ (true, s) → keys_at n found ts ≡ keys_at (n - 1) (found ++ k ∷ []) s
 keys_next n found ts r s k h e m = rw (keys_more n found ts h, e, m) refl
+
+pub pairs_none : (n : ℕ) (found : List (List ℕ × List ℕ)) (ts : List Lexeme) → n ≡ 0 → pairs_at n found ts ≡ Err refusal.AtEnd
+unfolding pairs_at
+pairs_none zero found ts h = refl
+pairs_none (suc n) found ts h = absurd (omega arith)
+
+pub pairs_more : (n : ℕ) (found : List (List ℕ × List ℕ)) (ts : List Lexeme) → n ≢ 0 → pairs_at n found ts ≡ (pair_at found ts >>= λ k. if (accept_at (codes ",") k.1).0 then pairs_at (n - 1) (found ++ k.0 ∷ []) (accept_at (codes ",") k.1).1 else Ok (found ++ k.0 ∷ [], (accept_at (codes ",") k.1).1))
+unfolding pairs_at
+pairs_more zero found ts h = absurd (h refl)
+pairs_more (suc n) found ts h = let e : suc n - 1 ≡ n = omega arith in rw e refl
+
+pub pairs_fail : (n : ℕ) (found : List (List ℕ × List ℕ)) (ts : List Lexeme) (e : Stop _) → n ≢ 0 → Fails e (pair_at found ts) → Fails e (pairs_at n found ts)
+pairs_fail n found ts e h f = rw (pairs_more n found ts h) (fails_bind e (pair_at found ts) _ f)
+
+pub pairs_last : (n : ℕ) (found : List (List ℕ × List ℕ)) (ts r s : List Lexeme) (k : List ℕ × List ℕ) → n ≢ 0 → pair_at found ts ≡ Ok (k, r) → accept_at (codes ",") r ≡ (false, s) → pairs_at n found ts ≡ Ok (found ++ k ∷ [], s)
+pairs_last n found ts r s k h e m = rw (pairs_more n found ts h, e, m) refl
+
+pub pairs_next : (n : ℕ) (found : List (List ℕ × List ℕ)) (ts r s : List Lexeme) (k : List ℕ × List ℕ) → n ≢ 0 → pair_at found ts ≡ Ok (k, r) → accept_at (codes ",") r ≡ (true, s) → pairs_at n found ts ≡ pairs_at (n - 1) (found ++ k ∷ []) s
+pairs_next n found ts r s k h e m = rw (pairs_more n found ts h, e, m) refl
+
+pub widths_none : (n : ℕ) (found : List (ℕ)) (ts : List Lexeme) → n ≡ 0 → widths_at n found ts ≡ Err refusal.AtEnd
+unfolding widths_at
+widths_none zero found ts h = refl
+widths_none (suc n) found ts h = absurd (omega arith)
+
+pub widths_more : (n : ℕ) (found : List (ℕ)) (ts : List Lexeme) → n ≢ 0 → widths_at n found ts ≡ (width_at ts >>= λ k. if (accept_at (codes ",") k.1).0 then widths_at (n - 1) (found ++ k.0 ∷ []) (accept_at (codes ",") k.1).1 else Ok (found ++ k.0 ∷ [], (accept_at (codes ",") k.1).1))
+unfolding widths_at
+widths_more zero found ts h = absurd (h refl)
+widths_more (suc n) found ts h = let e : suc n - 1 ≡ n = omega arith in rw e refl
+
+pub widths_fail : (n : ℕ) (found : List (ℕ)) (ts : List Lexeme) (e : Stop _) → n ≢ 0 → Fails e (width_at ts) → Fails e (widths_at n found ts)
+widths_fail n found ts e h f = rw (widths_more n found ts h) (fails_bind e (width_at ts) _ f)
+
+pub widths_last : (n : ℕ) (found : List (ℕ)) (ts r s : List Lexeme) (k : ℕ) → n ≢ 0 → width_at ts ≡ Ok (k, r) → accept_at (codes ",") r ≡ (false, s) → widths_at n found ts ≡ Ok (found ++ k ∷ [], s)
+widths_last n found ts r s k h e m = rw (widths_more n found ts h, e, m) refl
+
+pub widths_next : (n : ℕ) (found : List (ℕ)) (ts r s : List Lexeme) (k : ℕ) → n ≢ 0 → width_at ts ≡ Ok (k, r) → accept_at (codes ",") r ≡ (true, s) → widths_at n found ts ≡ widths_at (n - 1) (found ++ k ∷ []) s
+widths_next n found ts r s k h e m = rw (widths_more n found ts h, e, m) refl

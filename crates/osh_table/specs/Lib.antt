@@ -1,2 +1,4 @@
 pub mod Table
 pub mod Reading
+pub mod ValueTokens
+pub mod Values

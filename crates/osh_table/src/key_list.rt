@@ -18,7 +18,7 @@ pub fn refuse(token: Lexeme<'_>, why: OshWhy) -> Stop<OshWhy>
     Stop::Refused(Refusal::At { at: token.at, why })
 }
 
-fn named(alloc: Global, w: Lexeme<'_>) -> Result<Name, Stop<OshWhy>>
+pub fn named(alloc: Global, w: Lexeme<'_>) -> Result<Name, Stop<OshWhy>>
     ensures { Gives result (named (lexeme w.entry)) }
 {
     match Name::from_bytes(alloc, w.bytes) {
@@ -28,7 +28,7 @@ fn named(alloc: Global, w: Lexeme<'_>) -> Result<Name, Stop<OshWhy>>
     }
 }
 
-fn fresh_named(alloc: Global, stands: bool, w: Lexeme<'_>) -> Result<Name, Stop<OshWhy>>
+pub fn fresh_named(alloc: Global, stands: bool, w: Lexeme<'_>) -> Result<Name, Stop<OshWhy>>
     ensures { Gives result (fresh_named stands (lexeme w.entry)) }
 {
     if stands {

@@ -4,6 +4,8 @@
 mod key_list;
 mod link_method;
 mod table;
+mod value;
+mod whole_value;
 mod why;
 
 pub use key_list::{keys, name, names, refuse};
@@ -12,4 +14,5 @@ pub use table::{
     Form, OpName, OptName, OptionRow, number_of, operator_named, operator_word, option_number,
     option_word, row_named, rows,
 };
+pub use value::{OptionValue, content_of, value_of};
 pub use why::OshWhy;
