@@ -2,3 +2,4 @@ pub mod Table
 pub mod Reading
 pub mod ValueTokens
 pub mod Values
+pub mod Kinds

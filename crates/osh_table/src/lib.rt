@@ -2,6 +2,7 @@
 #![tactic(auto)]
 
 mod key_list;
+mod kinds;
 mod link_method;
 mod table;
 mod value;
@@ -9,6 +10,7 @@ mod whole_value;
 mod why;
 
 pub use key_list::{keys, name, names, refuse};
+pub use kinds::{Setting, kind_of};
 pub use link_method::method;
 pub use table::{
     Form, OpName, OptName, OptionRow, number_of, operator_named, operator_word, option_number,
