@@ -1,0 +1,3 @@
+pub mod Loops
+pub mod NameTests
+pub mod Results

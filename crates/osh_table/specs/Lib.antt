@@ -1,0 +1,5 @@
+pub mod Table
+pub mod Reading
+pub mod ValueTokens
+pub mod Values
+pub mod Kinds
