@@ -6,3 +6,5 @@ pub mod SchemaReaders
 pub mod SchemaTexts
 pub mod SizeReaders
 pub mod Sizes
+pub mod RowOrders
+pub mod RowFits

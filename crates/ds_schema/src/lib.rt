@@ -6,9 +6,9 @@ mod row;
 mod schema;
 mod schema_text;
 
-pub use key::{Key, KeyList};
+pub use key::{Key, KeyList, compare_rows, key_cmp, key_equal};
 pub use row::{Row, copy_row, project};
-pub use schema::{Field, Schema};
+pub use schema::{Field, Schema, row_fits};
 pub use schema_text::{
     SchemaFault, SchemaWhy, laws, parse_field, parse_kind, parse_schema, print_schema, read_schema,
 };

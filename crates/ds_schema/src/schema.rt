@@ -1,4 +1,5 @@
 ghost use Rattle.std.specs.Prelude.{◌≡◌, ◌≤◌, length, IfOk};
+ghost use Rattle.ds_value.specs.Kinds.{IsKind};
 ghost use Rattle.ds_schema.specs.Schemas.{IsSchema, fits_field, row_fits, IsField};
 
 use crate::Row;
@@ -71,4 +72,31 @@ impl Copied for Schema {
     fn copied(&self) -> Result<Schema, NoMemory> {
         Schema::copied(self)
     }
+}
+
+fn fits_field(field: &Field, value: &Value) -> bool
+    requires { IsKind field.now.kind }
+    ensures { result ≡ fits_field field.now value.now }
+{
+    match value {
+        Value::Null => field.nullable,
+        _ => fits(&field.kind, value),
+    }
+}
+
+/// Whether the row has one value for each field, which fits it.
+pub fn row_fits(schema: &Schema, row: &Row) -> bool
+    ensures { result ≡ row_fits schema.now row.now }
+{
+    let fields = schema.as_slice();
+    let values = row.as_slice();
+    if fields.len() != values.len() {
+        return false;
+    }
+    for (i, field) in fields.iter().enumerate() {
+        if !fits_field(field, &values[i]) {
+            return false;
+        }
+    }
+    true
 }
