@@ -19,3 +19,4 @@ pub mod Wrong
 pub mod StateExamples
 pub mod FlowExamples
 pub mod VerdictLaws
+pub mod OneVerdict

@@ -17,7 +17,7 @@ use Rattle.flow_rules.specs.Verdicts.{IsAccepted, AreStates, PortsInOrder, Forms
 use Rattle.op_base.proofs.KeyValues.{both_nothing, map_nothing}
 
 -- what a filter of numbers by one of their marks leaves
-marked : (f : ℕ → ℕ) (o a k : ℕ) → AllByRecursion (λ l. (f l ≡ o) × (l < a + k)) (filter (λ l. f l == o) (range_with_len a k))
+pub marked : (f : ℕ → ℕ) (o a k : ℕ) → AllByRecursion (λ l. (f l ≡ o) × (l < a + k)) (filter (λ l. f l == o) (range_with_len a k))
 marked f o a zero = tt
 marked f o a (suc k) = go (f a == o) refl (wider (filter (λ l. f l == o) (range_with_len (a + 1) k)) (marked f o (a + 1) k))
   where

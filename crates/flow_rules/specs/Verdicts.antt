@@ -1,5 +1,5 @@
 -- The verdict on a shaped flow: the states and choices of all links, or the first part of a need that a link misses.
-use Rattle.std.specs.Prelude.{◌≡◌, ℕ, ◌<◌, ◌==◌, Bool, List, [], ◌∷◌, ◌++◌, length, map, get_or, Option, Some, None}
+use Rattle.std.specs.Prelude.{◌≡◌, ℕ, ◌<◌, ◌==◌, Bool, List, [], ◌∷◌, ◌++◌, length, map, get_or, Option, Some, None, ⊤}
 use Rattle.ds_schema.specs.declared.key.Key.{Key}
 use Rattle.flow_graph.specs.declared.route.Route.{Route}
 use Rattle.flow_graph.specs.declared.route.Route.TheVariants as route
@@ -9,7 +9,7 @@ use Rattle.flow_graph.specs.Charts.{Chart, link_at, all_links, width_at, links_i
 use Rattle.flow_graph.specs.Forms.{form}
 use Rattle.flow_graph.specs.Operators.{Op}
 use Rattle.flow_graph.specs.Runs.{Out, Node, InsertedFrom}
-use Rattle.op_base.specs.Columns.{IsIn}
+use Rattle.op_base.specs.Columns.{IsIn, Lies}
 use Rattle.std.specs.List.{AllByRecursion}
 use Rattle.flow_rules.specs.Soundness.{Derives, Accepted as Meets}
 use Rattle.flow_rules.specs.declared.need.Need.{Need}
@@ -100,3 +100,16 @@ pub record AcceptedFlow (regains : Bool) (c : Chart) (states : List State) (ops 
 
 abbrev pub AcceptedIsSound : Type 0
 AcceptedIsSound = (regains : Bool) (c : Chart) (states : List State) (choices : List Choice) (ops : ℕ → Op) → IsVerdict regains c (Accepted states choices) → ((o : ℕ) → IsIn o c.order → PortsInOrder c o) → FormsAre c ops → AcceptedFlow regains c states ops
+
+-- in the order of the operators, the links into each leave operators before it
+abbrev pub ForwardOrder : Chart → List ℕ → List ℕ → Type 0
+ForwardOrder c seen [] = ⊤
+ForwardOrder c seen (o ∷ order) = Lies (links_into c o) seen × ForwardOrder c (links_from c o ++ seen) order
+
+-- the order has the producer of each link
+abbrev pub CoversLinks : Chart → Type 0
+CoversLinks c = (l : ℕ) → l < length c.flow.links → IsIn (link_at c l).from c.order
+
+-- A flow has one verdict.
+abbrev pub OneVerdict : Type 0
+OneVerdict = (regains : Bool) (c : Chart) (v w : Verdict) → ForwardOrder c [] c.order → CoversLinks c → IsVerdict regains c v → IsVerdict regains c w → v ≡ w

@@ -9,7 +9,7 @@ ghost use Rattle.flow_graph.specs.declared.place.Place.{Place};
 ghost use Rattle.flow_graph.specs.declared.route.Route.TheVariants as route;
 ghost use Rattle.flow_graph.specs.Operators.{import, dsread, by_row, tsort, remdup, group, join, merge, lookup, changecapture, funnel, funnel_sequence, funnel_sort};
 ghost use Rattle.flow_rules.specs.Laws.{OperatorHolds, FaultsAgree, RouteHolds, SortHolds, RegainHolds, RefiningHolds, AgreementIsWhole, ExactIsWhole, FlowsKeep, FlowFaultsAgree, SinksMeet, OneMeaning};
-ghost use Rattle.flow_rules.specs.Verdicts.{AcceptedIsSound};
+ghost use Rattle.flow_rules.specs.Verdicts.{AcceptedIsSound, OneVerdict};
 ghost use Rattle.flow_rules.specs.WrongRules.{RemdupWhereColocated, RepartitionAgreesAlone, AnyKeepsSort, JoinsLieApart, RegainWithoutSort};
 
 /// What each operator puts on its outputs is as the state says that is derived for them.
@@ -79,6 +79,11 @@ pub fn sinks_meet_grades()
 /// The equations of a flow's meaning determine the list on each link.
 pub fn one_meaning()
     ensures { OneMeaning }
+{}
+
+/// A flow has one verdict.
+pub fn one_verdict()
+    ensures { OneVerdict }
 {}
 
 /// What an accepted verdict says of states, choices and needs is what the law of flows asks.
