@@ -5,3 +5,6 @@ pub mod Machine
 pub mod Descent
 pub mod Taking
 pub mod Giving
+pub mod Prefixes
+pub mod Causes
+pub mod Ways

@@ -1,3 +1,4 @@
 pub mod Pools
 pub mod Spelled
 pub mod Reading
+pub mod First
