@@ -8,3 +8,4 @@ pub mod SizeReaders
 pub mod Sizes
 pub mod RowOrders
 pub mod RowFits
+pub mod RowExamples

@@ -4,3 +4,4 @@ pub mod SchemaText
 pub mod SchemaReading
 pub mod SchemaGrammar
 pub mod SchemaLaws
+pub mod RowLaws

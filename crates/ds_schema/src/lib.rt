@@ -2,11 +2,13 @@
 #![tactic(auto)]
 
 mod key;
+mod order;
 mod row;
 mod schema;
 mod schema_text;
 
 pub use key::{Key, KeyList, compare_rows, key_cmp, key_equal};
+pub use order::row_order_is_total;
 pub use row::{Row, copy_row, project};
 pub use schema::{Field, Schema, row_fits};
 pub use schema_text::{
