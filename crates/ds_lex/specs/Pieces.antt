@@ -30,8 +30,11 @@ abbrev pub is_text_byte : ℕ → Bool
 is_text_byte b = nat_le 32 b || (b == 9)
 
 -- ( ) [ ] { } , ; : | < > = + - * / % !
+abbrev pub sign_bytes : List ℕ
+sign_bytes = 40 ∷ 41 ∷ 91 ∷ 93 ∷ 123 ∷ 125 ∷ 44 ∷ 59 ∷ 58 ∷ 124 ∷ 60 ∷ 62 ∷ 61 ∷ 43 ∷ 45 ∷ 42 ∷ 47 ∷ 37 ∷ 33 ∷ []
+
 abbrev pub is_sign_byte : ℕ → Bool
-is_sign_byte b = list_any (λ s. s == b) (40 ∷ 41 ∷ 91 ∷ 93 ∷ 123 ∷ 125 ∷ 44 ∷ 59 ∷ 58 ∷ 124 ∷ 60 ∷ 62 ∷ 61 ∷ 43 ∷ 45 ∷ 42 ∷ 47 ∷ 37 ∷ 33 ∷ [])
+is_sign_byte b = list_any (λ s. s == b) sign_bytes
 
 -- == != <= >= && ||
 abbrev pub is_double_sign : ℕ → ℕ → Bool
