@@ -25,7 +25,8 @@ with_line r = record { lines = [] ∷ r.lines; too_long = r.too_long }
 abbrev pub split_within : ℕ → List ℕ → Reading
 split_within room [] = record { lines = []; too_long = false }
 split_within zero (b ∷ bs) = record { lines = []; too_long = true }
-split_within (suc room) (b ∷ bs) = if b == 10 then with_line (split_within room bs) else with_before (b ∷ []) (split_within room bs)
+split_within (suc room) (b ∷ bs) =
+    if b == 10 then with_line (split_within room bs) else with_before (b ∷ []) (split_within room bs)
 
 -- without the one byte 13 at its end
 abbrev pub without_return : List ℕ → List ℕ
@@ -38,7 +39,8 @@ abbrev pub shown : List ℕ → List ℕ
 shown line = take 2_097_153 (without_return line)
 
 abbrev pub lines_within : ℕ → List ℕ → Reading
-lines_within room bytes = record { lines = map shown (split_within room bytes).lines; too_long = (split_within room bytes).too_long }
+lines_within room bytes =
+    record { lines = map shown (split_within room bytes).lines; too_long = (split_within room bytes).too_long }
 
 -- the lines of a file, of which at most 2^40 bytes are read
 abbrev pub lines_of : List ℕ → Reading
@@ -54,4 +56,5 @@ written_lines lines = flat_map (λ l. l ++ 10 ∷ []) lines
 
 -- what is written as lines is read as these lines
 abbrev pub LinesAgain : Type 0
-LinesAgain = (lines : List (List ℕ)) → AllByRecursion IsFree lines → length (written_lines lines) ≤ 2 ^ 40 → lines_of (written_lines lines) ≡ record { lines = map shown lines; too_long = false }
+LinesAgain = (lines : List (List ℕ)) → AllByRecursion IsFree lines → length (written_lines lines) ≤ 2 ^ 40
+    → lines_of (written_lines lines) ≡ record { lines = map shown lines; too_long = false }

@@ -16,10 +16,12 @@ use Rattle.ds_text.specs.Records.{SpellsRow, written_row, is_refused}
 
 -- a line spells one row at most, and that fits the schema
 abbrev pub OneRow : Type 0
-OneRow = (form : Form) (fields : List Field) (line : List ℕ) (a b : List Value) → FormFits fields form → SpellsRow form fields line a → SpellsRow form fields line b → a ≡ b
+OneRow = (form : Form) (fields : List Field) (line : List ℕ) (a b : List Value) → FormFits fields form
+    → SpellsRow form fields line a → SpellsRow form fields line b → a ≡ b
 
 abbrev pub SpelledFits : Type 0
-SpelledFits = (form : Form) (fields : List Field) (line : List ℕ) (row : List Value) → SpellsRow form fields line row → row_fits fields row ≡ true
+SpelledFits = (form : Form) (fields : List Field) (line : List ℕ) (row : List Value)
+    → SpellsRow form fields line row → row_fits fields row ≡ true
 
 abbrev pub ends_with : ℕ → List ℕ → Bool
 ends_with x [] = false
@@ -34,7 +36,8 @@ is_sized (kind.Dec p s) = false
 is_sized (kind.Text max fixed) = fixed
 is_sized kind.Date = false
 
--- a column gives the value back: a text of string[max=n] doesn't end with a space, and one of a nullable column isn't spaces alone or empty
+-- a column gives the value back: a text of string[max=n] doesn't end with a space, and one of a nullable column
+-- isn't spaces alone or empty
 abbrev pub Stays : Kind → Bool → Value → Type 0
 Stays k nullable Null = Unit {0}
 Stays k nullable (Int z) = Unit {0}
@@ -62,7 +65,8 @@ pub record IsReadable (form : Form) (fields : List Field) (row : List Value) : T
 
 -- the line that is given of a written row spells the row
 abbrev pub ReadsBack : Type 0
-ReadsBack = (form : Form) (fields : List Field) (row : List Value) → IsSchema fields → FormFits fields form → IsReadable form fields row → SpellsRow form fields (shown (written_row form fields row)) row
+ReadsBack = (form : Form) (fields : List Field) (row : List Value) → IsSchema fields → FormFits fields form
+    → IsReadable form fields row → SpellsRow form fields (shown (written_row form fields row)) row
 
 -- rows as the lines of a file
 abbrev pub written_rows : Form → List Field → List (List Value) → List ℕ
@@ -80,5 +84,6 @@ pub record FileAgain (form : Form) (fields : List Field) (rows : List (List Valu
   pub ends : (lines_of (written_rows form fields rows)).too_long ≡ false
 
 abbrev pub FileReadsBack : Type 0
-FileReadsBack = (form : Form) (fields : List Field) (rows : List (List Value)) → IsSchema fields → FormFits fields form → AllByRecursion (IsReadable form fields) rows
-    → length (written_rows form fields rows) ≤ 2 ^ 40 → FileAgain form fields rows
+FileReadsBack = (form : Form) (fields : List Field) (rows : List (List Value)) → IsSchema fields → FormFits fields form
+    → AllByRecursion (IsReadable form fields) rows → length (written_rows form fields rows) ≤ 2 ^ 40
+    → FileAgain form fields rows

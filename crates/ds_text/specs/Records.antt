@@ -31,7 +31,9 @@ Means f quoted bytes v = NullOr (is_null_cell f quoted bytes) f.kind bytes v
 -- the line has a field for each column, with delimiters between them and nothing more; no line spells no columns
 abbrev pub SpellsFields : ℕ → List Field → Option (List ℕ) → List Value → Type 0
 SpellsFields d [] None [] = Unit {0}
-SpellsFields d (f ∷ fs) (Some line) (v ∷ vs) = (c : Cell) × (rest : Option (List ℕ)) × IsCell d c × (line ≡ cell_text c ++ behind d rest) × Means f c.quoted c.bytes v × SpellsFields d fs rest vs
+SpellsFields d (f ∷ fs) (Some line) (v ∷ vs) =
+    (c : Cell) × (rest : Option (List ℕ)) × IsCell d c × (line ≡ cell_text c ++ behind d rest)
+    × Means f c.quoted c.bytes v × SpellsFields d fs rest vs
 SpellsFields d fs line vs = ⊥
 
 -- a column of spaces alone is null where it is nullable; each other column is read by its kind
@@ -94,9 +96,13 @@ written_fields d [] vs = []
 written_fields d (f ∷ fs) [] = []
 written_fields d (f ∷ fs) (v ∷ vs) = written_field d f v ++ written_more d fs vs
 
+-- filled with spaces: behind the text where it stands to the left, else before it
+abbrev pub padded : Bool → ℕ → List ℕ → List ℕ
+padded left w text = if left then filled w text else replicate (w - length text) 32 ++ text
+
 -- a column as it is written: texts to the left, numbers and dates to the right, null as spaces
 abbrev pub written_column : Field → ℕ → Value → List ℕ
-written_column f w v = if is_null v then replicate w 32 else if is_text f.kind then filled w (written f.kind v) else replicate (w - length (written f.kind v)) 32 ++ written f.kind v
+written_column f w v = if is_null v then replicate w 32 else padded (is_text f.kind) w (written f.kind v)
 
 abbrev pub written_columns : List Field → List ℕ → List Value → List ℕ
 written_columns [] ws vs = []

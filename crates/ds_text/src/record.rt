@@ -86,7 +86,8 @@ fn write_values(
     requires form { FormFits fields.now form.now }
     requires fields { AllByRecursion IsField fields.now }
     requires fits { row_fits fields.now row.now ≡ true }
-    ensures ok { OnOk result ((into.new ≡ into.old ++ written_row form.now fields.now row.now) × (is_too_wide form.now fields.now row.now ≡ false)) }
+    ensures ok { OnOk result (into.new ≡ into.old ++ written_row form.now fields.now row.now) }
+    ensures narrow { OnOk result (is_too_wide form.now fields.now row.now ≡ false) }
     ensures bad { result ≡ Err RecordFault.Bad → is_too_wide form.now fields.now row.now ≡ true }
 {
     match form {
@@ -102,7 +103,8 @@ fn write_values(
 fn record_text(alloc: Global, schema: &Schema, form: &Form, row: &Row) -> Result<Bytes, RecordFault>
     requires form { FormFits schema.now form.now }
     requires fits { row_fits schema.now row.now ≡ true }
-    ensures ok { IfOk result (λ text. (text ≡ written_row form.now schema.now row.now) × (is_refused form.now schema.now row.now ≡ false)) }
+    ensures ok { IfOk result (λ text. text ≡ written_row form.now schema.now row.now) }
+    ensures writable { OnOk result (is_refused form.now schema.now row.now ≡ false) }
     ensures bad { result ≡ Err RecordFault.Bad → is_refused form.now schema.now row.now ≡ true }
 {
     if holds_end(row.as_slice()) {
@@ -128,7 +130,8 @@ pub fn write_record(
 ) -> Result<(), RecordFault>
     requires form { FormFits schema.now form.now }
     requires fits { row_fits schema.now row.now ≡ true }
-    ensures ok { OnOk result ((into.new ≡ into.old ++ written_row form.now schema.now row.now) × (is_refused form.now schema.now row.now ≡ false)) }
+    ensures ok { OnOk result (into.new ≡ into.old ++ written_row form.now schema.now row.now) }
+    ensures writable { OnOk result (is_refused form.now schema.now row.now ≡ false) }
     ensures bad { result ≡ Err RecordFault.Bad → is_refused form.now schema.now row.now ≡ true }
     ensures err { OnErr result (into.new ≡ into.old) }
 {
@@ -152,7 +155,10 @@ pub fn write_line(
 ) -> Result<(), RecordFault>
     requires form { FormFits schema.now form.now }
     requires fits { row_fits schema.now row.now ≡ true }
-    ensures ok { OnOk result ((into.new ≡ into.old ++ (written_row form.now schema.now row.now ++ 10 ∷ [])) × (is_refused form.now schema.now row.now ≡ false)) }
+    ensures ok {
+        OnOk result (into.new ≡ into.old ++ (written_row form.now schema.now row.now ++ 10 ∷ []))
+    }
+    ensures writable { OnOk result (is_refused form.now schema.now row.now ≡ false) }
     ensures bad { result ≡ Err RecordFault.Bad → is_refused form.now schema.now row.now ≡ true }
     ensures err { OnErr result (into.new ≡ into.old) }
 {
@@ -183,7 +189,10 @@ pub fn spelled_fits()
 {}
 
 /// What is written reads back as the same row, and a file of rows as these rows.
-#[tactic(auto, using(crate::proofs::RecordProofs::reads_back, crate::proofs::RecordProofs::file_reads_back))]
+#[tactic(auto, using(
+    crate::proofs::RecordProofs::reads_back,
+    crate::proofs::RecordProofs::file_reads_back
+))]
 pub fn reads_back()
     ensures row { ReadsBack }
     ensures file { FileReadsBack }
@@ -324,7 +333,8 @@ mod tests {
         Ok(())
     }
 
-    /// A line of columns of 3, 4 and 2 bytes, the row that it spells, and how that is written; or nothing where it is bad.
+    /// A line of columns of 3, 4 and 2 bytes, the row that it spells, and how that is written;
+    /// or nothing where it is bad.
     const COLUMNS: [(&[u8], &[u8], &[u8]); 12] = [
         (b" 12ab  x ", b"12 [ab] [x] ", b" 12ab  x "),
         (b"1", b"1 null [] ", b"  1      "),

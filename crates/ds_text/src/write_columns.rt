@@ -1,10 +1,9 @@
 ghost use Rattle.std.specs.Prelude.{◌≡◌, ◌≤◌, ◌<◌, ◌==◌, ◌++◌, ◌-◌, true, false, length, replicate, nat_lt, OnOk, OnErr, Ok, Err, if◌then◌else◌};
 ghost use Rattle.std.specs.List.{AllByRecursion};
 ghost use Rattle.ds_value.specs.Kinds.{IsKind};
-ghost use Rattle.ds_value.specs.Spellings.{filled};
 ghost use Rattle.ds_schema.specs.Schemas.{IsField, fits_field, row_fits};
 ghost use Rattle.ds_text.specs.Columns.{is_text};
-ghost use Rattle.ds_text.specs.Records.{is_null, is_wide, any_wide, written_column, written_columns};
+ghost use Rattle.ds_text.specs.Records.{is_null, is_wide, any_wide, padded, written_column, written_columns};
 
 use crate::columns::is_text;
 use crate::fault::RecordFault;
@@ -24,7 +23,7 @@ fn write_spaces(count: usize, into: &mut Bytes) -> Result<(), NoMemory>
 
 /// Appends a text and the spaces beside it: behind it where `left` says that it stands to the left.
 fn write_padded(left: bool, text: &[u8], width: usize, into: &mut Bytes) -> Result<(), NoMemory>
-    ensures { OnOk result (into.new ≡ into.old ++ (if left then filled width text.now else replicate (width - length text.now) 32 ++ text.now)) }
+    ensures { OnOk result (into.new ≡ into.old ++ padded left width text.now) }
 {
     let free = width.saturating_sub(text.len());
     if left {
@@ -44,7 +43,8 @@ fn write_column(
 ) -> Result<(), RecordFault>
     requires kind { IsKind field.now.kind }
     requires fits { fits_field field.now value.now ≡ true }
-    ensures ok { OnOk result ((into.new ≡ into.old ++ written_column field.now width value.now) × (is_wide field.now width value.now ≡ false)) }
+    ensures ok { OnOk result (into.new ≡ into.old ++ written_column field.now width value.now) }
+    ensures narrow { OnOk result (is_wide field.now width value.now ≡ false) }
     ensures bad { result ≡ Err RecordFault.Bad → is_wide field.now width value.now ≡ true }
 {
     if is_null(value) {
@@ -77,7 +77,10 @@ pub fn write_columns(
     requires widths { length widths.now ≡ length fields.now }
     requires fields { AllByRecursion IsField fields.now }
     requires fits { row_fits fields.now row.now ≡ true }
-    ensures ok { OnOk result ((into.new ≡ into.old ++ written_columns fields.now widths.now row.now) × (any_wide fields.now widths.now row.now ≡ false)) }
+    ensures ok {
+        OnOk result (into.new ≡ into.old ++ written_columns fields.now widths.now row.now)
+    }
+    ensures narrow { OnOk result (any_wide fields.now widths.now row.now ≡ false) }
     ensures bad { result ≡ Err RecordFault.Bad → any_wide fields.now widths.now row.now ≡ true }
 {
     for (i, field) in fields.iter().enumerate() {

@@ -27,4 +27,4 @@ loop-i-preserved c =
     let in_row : c.loop-i.i < length c.args.row.now = omega (arith, same_length c.args.fields.now c.args.row.now c.requires.fits, c.loop-i-test.true) in
     column_step c.args.fields.now c.args.widths.now c.args.row.now c.loop-i.i _ _ _ c.index-fields-i.result _ c.index-row-i.result
     (item_more c.args.fields.now c.loop-i.i c.index-fields-i.result c.loop-i-test.true c.index-fields-i.is) (drop_more c.args.widths.now c.loop-i.i 0 in_widths)
-    (item_more c.args.row.now c.loop-i.i c.index-row-i.result in_row c.index-row-i.is) c.in-Ok.ensures.ok.0 c.in-Ok.ensures.ok.1 c.loop-i.invariant
+    (item_more c.args.row.now c.loop-i.i c.index-row-i.result in_row c.index-row-i.is) c.in-Ok.ensures.ok c.in-Ok.ensures.narrow c.loop-i.invariant
