@@ -1,5 +1,5 @@
 -- A row that fits has one value for each field.
-use Rattle.std.proofs.Common.{◌≡◌, ◌≢◌, Bool, true, false, ◌&&◌, List, [], ◌∷◌, length, refl, sym, ap, ◌∙◌, suc}
+use Rattle.std.proofs.Common.{◌≡◌, ◌≢◌, Bool, true, false, ◌&&◌, List, [], ◌∷◌, length, refl, ap, ◌∙◌, suc}
 use Rattle.ds_value.specs.declared.value.Value.{Value}
 use Rattle.ds_schema.specs.declared.schema.Field.{Field}
 use Rattle.ds_schema.specs.Schemas.{fits_field, row_fits}

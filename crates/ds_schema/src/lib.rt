@@ -14,3 +14,6 @@ pub use schema::{Field, Schema, row_fits};
 pub use schema_text::{
     SchemaFault, SchemaWhy, laws, parse_field, parse_kind, parse_schema, print_schema, read_schema,
 };
+
+#[cfg(test)]
+mod tests;

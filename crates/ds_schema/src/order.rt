@@ -5,5 +5,4 @@ ghost use Rattle.ds_schema.specs.RowLaws.{RowOrderIsTotal, EqualRowsAgree};
 pub fn row_order_is_total()
     ensures total { RowOrderIsTotal }
     ensures equal { EqualRowsAgree }
-{
-}
+{}

@@ -1,4 +1,3 @@
-use Rattle.std.proofs.Common.{◌≡◌, sym}
 use Rattle.ds_schema.proofs.RowOrders.{tie_is_val}
 use Rattle.ds_schema.proofs.key.key_equal.Goals as goal
 

@@ -1,4 +1,4 @@
-use Rattle.std.proofs.Common.{◌≡◌, ◌∙◌, ap, sym, length}
+use Rattle.std.proofs.Common.{◌∙◌, ap, sym, length}
 use Rattle.ds_schema.proofs.RowFits.{other_length}
 use Rattle.ds_schema.proofs.schema.row_fits.Goals as goal
 
