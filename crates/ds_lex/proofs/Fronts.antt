@@ -1,12 +1,16 @@
 -- The parts of which tokens and comments are made, at the front of some bytes.
 use Rattle.std.proofs.Common.{◌≡◌, ◌≤◌, ◌+◌, ℕ, suc, List, [], ◌∷◌, ◌++◌, length, Option, Some, None, Bool, true, false, cond, refl, sym, ap, ◌∙◌, arith, subst, length-append}
-use Rattle.std.specs.Prelude.{◌&&◌, not, ◌==◌, position, if◌then◌else◌, codes}
+use Rattle.std.specs.Prelude.{◌&&◌, ◌||◌, not, ◌==◌, position, if◌then◌else◌, codes}
 use Rattle.std.specs.List.{list_all, position_from}
 use Rattle.std.specs.Cmp.{first_so, second_so}
 use Rattle.std.proofs.lemmas.Bool.{true≢false, not-true, eqb-false, eqb-true, eq-eqb}
 use Rattle.std.proofs.lemmas.List.Sums.{take_while-cons}
 use Rattle.std.proofs.lemmas.Iterator.Adapters.{position_from-zero}
 use Rattle.ds_lex.specs.Pieces.{begins_with, count_front, comment_len, one_more}
+
+pub neither : (a b : Bool) → (a || b) ≡ false → (a ≡ false) × (b ≡ false)
+neither true b h = absurd cc
+neither false b h = (refl, h)
 
 -- ---- the bytes at the front that pass
 
@@ -21,7 +25,7 @@ pub record Front (p : ℕ → Bool) (bytes : List ℕ) : Type 0 where
 pub counted : (p : ℕ → Bool) (b : ℕ) (bytes : List ℕ) → p b ≡ true → count_front p (b ∷ bytes) ≡ suc (count_front p bytes)
 counted p b bytes e = ap (λ (xs : List ℕ). length xs) (take_while-cons p b bytes) ∙ rw e refl
 
-uncounted : (p : ℕ → Bool) (b : ℕ) (bytes : List ℕ) → p b ≡ false → count_front p (b ∷ bytes) ≡ 0
+pub uncounted : (p : ℕ → Bool) (b : ℕ) (bytes : List ℕ) → p b ≡ false → count_front p (b ∷ bytes) ≡ 0
 uncounted p b bytes e = ap (λ (xs : List ℕ). length xs) (take_while-cons p b bytes) ∙ rw e refl
 
 front_by : (p : ℕ → Bool) (b : ℕ) (bytes : List ℕ) (t : Bool) → p b ≡ t → Front p bytes → Front p (b ∷ bytes)

@@ -36,14 +36,14 @@ reached mode make n m bytes rest size e l h = (
 
 -- ---- by the first byte
 
-word_piece : (mode : Mode) (b : ℕ) (bs : List ℕ) → opens_word b ≡ true → piece_from mode b bs ≡ Some (Part sort.Word (count_front is_word_byte bs + 1))
+pub word_piece : (mode : Mode) (b : ℕ) (bs : List ℕ) → opens_word b ≡ true → piece_from mode b bs ≡ Some (Part sort.Word (count_front is_word_byte bs + 1))
 word_piece mode b bs o =
     let blank : is_blank b ≡ false = grind (arith, nat_tests) in
     let hash : eqb b 35 ≡ false = grind (arith, nat_tests) in
     let slash : eqb b 47 ≡ false = grind (arith, nat_tests) in
     rw (blank, hash, slash, o) refl
 
-digit_piece : (mode : Mode) (b : ℕ) (bs : List ℕ) → is_digit b ≡ true → piece_from mode b bs ≡ Some (Part sort.Number (number_len (b ∷ bs)))
+pub digit_piece : (mode : Mode) (b : ℕ) (bs : List ℕ) → is_digit b ≡ true → piece_from mode b bs ≡ Some (Part sort.Number (number_len (b ∷ bs)))
 digit_piece mode b bs d =
     let blank : is_blank b ≡ false = grind (arith, nat_tests) in
     let hash : eqb b 35 ≡ false = grind (arith, nat_tests) in
@@ -159,7 +159,7 @@ SignReaches bytes = (mode : Mode) (rest : List ℕ) → NoComment bytes rest →
 double_reaches : (b c : ℕ) → ((mode : Mode) (rest : List ℕ) → piece_at mode (b ∷ c ∷ rest) ≡ Some (Part sort.Sign 2)) → SignReaches (b ∷ c ∷ [])
 double_reaches b c found mode rest h = (Part sort.Sign 2, found mode rest, inl refl)
 
-by_mode : (P : Mode → Type 0) → P Osh → P Inner → (mode : Mode) → P mode
+pub by_mode : (P : Mode → Type 0) → P Osh → P Inner → (mode : Mode) → P mode
 by_mode P a b Osh = a
 by_mode P a b Inner = b
 

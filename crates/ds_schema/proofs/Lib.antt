@@ -2,6 +2,7 @@ pub mod FieldLoops
 pub mod FieldNames
 pub mod FieldReaders
 pub mod KindReaders
+pub mod SchemaPrinted
 pub mod SchemaReaders
 pub mod SchemaTexts
 pub mod SizeReaders

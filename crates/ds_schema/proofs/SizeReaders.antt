@@ -27,7 +27,7 @@ all_digits (c ∷ bytes) h =
     let small = leb-true c 57 (second_so (nat_le 48 c) (nat_le c 57) digit) in
     (omega (arith, digit_is c digit, small), all_digits bytes (second_so (is_digit c) (list_all is_digit bytes) h))
 
-digits_all : (bytes : List ℕ) → AllDigits 10 bytes → list_all is_digit bytes ≡ true
+pub digits_all : (bytes : List ℕ) → AllDigits 10 bytes → list_all is_digit bytes ≡ true
 digits_all [] h = refl
 digits_all (c ∷ bytes) h =
     let range = digit_from_value c h.0 in
