@@ -65,8 +65,8 @@ if_valid false s u y f g h = g refl h
 node_valid : (ns : List Node) (t : Lexeme) (y : State) → Leads (node_step true ns t) y
 node_valid ns t y =
     if_valid (bytes_eq t.bytes (codes "node")) _ _ y
-      (λ e. if_valid (nat_le 64 (length ns)) _ _ y (λ f. err_valid why.TooMany y) (λ f. to_valid ns NodeName y (leb-false 64 (length ns) f)))
-      (λ e. err_valid why.Syntax y)
+    (λ e. if_valid (nat_le 64 (length ns)) _ _ y (λ f. err_valid why.TooMany y) (λ f. to_valid ns NodeName y (leb-false 64 (length ns) f)))
+    (λ e. err_valid why.Syntax y)
 
 inside_valid : (ns : List Node) (node : Node) (t : Lexeme) (y : State) → Leads (inside_step ns node t) y
 inside_valid ns node t y =
@@ -81,8 +81,8 @@ pool_valid ns node t y = if_valid (not (is_name0 (content t))) _ _ y (λ e. err_
 path_valid : (ns : List Node) (kind : Lexeme) (node : Node) (t : Lexeme) (y : State) → Leads (path_step true ns kind node t) y
 path_valid ns kind node t y =
     if_valid (bytes_eq kind.bytes (codes "scratchdisk")) _ _ y
-      (λ e. if_valid (not (is_name0 (content t))) _ _ y (λ f. err_valid why.Name y) (λ f. to_valid ns (Braces (with_scratch node (content t))) y tt))
-      (λ e. to_valid ns (Braces node) y tt)
+    (λ e. if_valid (not (is_name0 (content t))) _ _ y (λ f. err_valid why.Name y) (λ f. to_valid ns (Braces (with_scratch node (content t))) y tt))
+    (λ e. to_valid ns (Braces node) y tt)
 
 name_valid : (ns : List Node) (t : Lexeme) (y : State) → Leads (name_step true ns t) y
 name_valid ns t y =
@@ -208,8 +208,8 @@ refused_check t false v s u f g x h = g refl x h
 node_refused : (ns : List Node) (t : Lexeme) → Refused t (node_step true ns t) (node_step false ns t)
 node_refused ns t =
     refused_if t (bytes_eq t.bytes (codes "node")) _ _ _ _
-      (λ e. refused_check t (nat_le 64 (length ns)) why.TooMany (to ns NodeName) (to ns NodeName) (λ f. ((ns, NodeName), (refl, e))) (λ f. refused_to t ns NodeName _))
-      (λ e. refused_syntax t)
+    (λ e. refused_check t (nat_le 64 (length ns)) why.TooMany (to ns NodeName) (to ns NodeName) (λ f. ((ns, NodeName), (refl, e))) (λ f. refused_to t ns NodeName _))
+    (λ e. refused_syntax t)
 
 inside_refused : (ns : List Node) (node : Node) (t : Lexeme) → Refused t (inside_step ns node t) (inside_step ns node t)
 inside_refused ns node t =
@@ -225,21 +225,21 @@ not_name bytes h = and_right _ _ (not-true _ h)
 pool_refused : (ns : List Node) (node : Node) (t : Lexeme) → is_quoted t ≡ true → Refused t (pool_step true ns node t) (pool_step false ns node t)
 pool_refused ns node t q =
     refused_check t (not (is_name0 (content t))) why.Name (to ns (MorePools (with_pool node (content t)))) (to ns (MorePools (with_pool node (content t))))
-      (λ e. ((ns, MorePools (with_pool node (content t))), (refl, (q, not_name (content t) e)))) (λ e. refused_to t ns (MorePools (with_pool node (content t))) _)
+    (λ e. ((ns, MorePools (with_pool node (content t))), (refl, (q, not_name (content t) e)))) (λ e. refused_to t ns (MorePools (with_pool node (content t))) _)
 
 path_refused : (ns : List Node) (kind : Lexeme) (node : Node) (t : Lexeme) → is_quoted t ≡ true → Refused t (path_step true ns kind node t) (path_step false ns kind node t)
 path_refused ns kind node t q =
     refused_if t (bytes_eq kind.bytes (codes "scratchdisk")) _ _ _ _
-      (λ e. refused_check t (not (is_name0 (content t))) why.Name (to ns (Braces (with_scratch node (content t)))) (to ns (Braces (with_scratch node (content t))))
-        (λ e. ((ns, Braces (with_scratch node (content t))), (refl, (q, not_name (content t) e)))) (λ e. refused_to t ns (Braces (with_scratch node (content t))) _))
-      (λ e. refused_to t ns (Braces node) _)
+    (λ e. refused_check t (not (is_name0 (content t))) why.Name (to ns (Braces (with_scratch node (content t)))) (to ns (Braces (with_scratch node (content t))))
+    (λ e. ((ns, Braces (with_scratch node (content t))), (refl, (q, not_name (content t) e)))) (λ e. refused_to t ns (Braces (with_scratch node (content t))) _))
+    (λ e. refused_to t ns (Braces node) _)
 
 name_refused : (ns : List Node) (t : Lexeme) → is_quoted t ≡ true → Refused t (name_step true ns t) (name_step false ns t)
 name_refused ns t q =
     refused_check t (not (is_name (content t))) why.Name _ (to ns (Open (content t)))
-      (λ e. ((ns, Open (content t)), (refl, (q, not-true _ e))))
-      (λ e. refused_check t (has_node ns (content t)) why.DoubleNode (to ns (Open (content t))) (to ns (Open (content t)))
-        (λ f. ((ns, Open (content t)), (refl, (q, not-false _ e)))) (λ f. refused_to t ns (Open (content t)) _))
+    (λ e. ((ns, Open (content t)), (refl, (q, not-true _ e))))
+    (λ e. refused_check t (has_node ns (content t)) why.DoubleNode (to ns (Open (content t))) (to ns (Open (content t)))
+    (λ f. ((ns, Open (content t)), (refl, (q, not-false _ e)))) (λ f. refused_to t ns (Open (content t)) _))
 
 one_refused : (t : Lexeme) (c : Bool) (ns : List Node) (s : Stand) → Refused t (if c then to ns s else Err why.Syntax) (if c then to ns s else Err why.Syntax)
 one_refused t c ns s = refused_if t c _ _ _ _ (λ e. refused_to t ns s _) (λ e. refused_syntax t)

@@ -76,12 +76,12 @@ unfolding pools_at
 run_pools ns node ts =
     run_sort sort.Quoted ns (FirstPool node) (λ t. pool_step true ns node t) refl (λ t. refl) ts
     ∙ (ext (sort_at sort.Quoted why.Syntax ts) _ (λ x. (pool_named node x.0 >>= λ more. more_pools_at more x.1) >>= inside ns)
-        (λ x. run_pool ns node x.0 x.1 ∙ (ext (pool_named node x.0) _ _ (λ more. run_more ns more x.1) ∙ sym (assoc (pool_named node x.0) _ _)))
+    (λ x. run_pool ns node x.0 x.1 ∙ (ext (pool_named node x.0) _ _ (λ more. run_more ns more x.1) ∙ sym (assoc (pool_named node x.0) _ _)))
     ∙ sym (assoc (sort_at sort.Quoted why.Syntax ts) _ _))
 
 brace_by : (b c : Bool) (ns : List Node) (node : Node) (t : Lexeme) (ts : List Lexeme) → run true ns (BraceMore node) ts ≡ (expect_at (codes "}") why.Syntax (behind_quoted ts) >>= λ x. run true ns (Inside node) x.1)
     → behind t (if b then to ns (BraceMore node) else if c then to ns (Inside node) else Err why.Syntax) (on ts)
-      ≡ ((let r : Read Lexeme = if b then expect_at (codes "}") why.Syntax (behind_quoted ts) else if c then Ok (t, ts) else refuse t why.Syntax in r) >>= λ x. run true ns (Inside node) x.1)
+    ≡ ((let r : Read Lexeme = if b then expect_at (codes "}") why.Syntax (behind_quoted ts) else if c then Ok (t, ts) else refuse t why.Syntax in r) >>= λ x. run true ns (Inside node) x.1)
 brace_by true c ns node t ts h = h
 brace_by false true ns node t ts h = refl
 brace_by false false ns node t ts h = refl
@@ -106,9 +106,9 @@ unfolding unused_at
 run_unused ns node ts =
     run_word (codes "pools") ns (BraceWord node) ns (BraceFirst node) refl (λ t. refl) ts
     ∙ (ext (expect_at (codes "pools") why.Syntax ts) _ _ (λ x.
-        run_brace_first ns node x.1
-        ∙ (ext (sort_at sort.Quoted why.Syntax x.1) _ _ (λ q. run_brace_more ns node q.1 ∙ sym (assoc (expect_at (codes "}") why.Syntax (behind_quoted q.1)) _ (λ (u : Unit {0} × List Lexeme). run true ns (Inside node) u.1)))
-        ∙ sym (assoc (sort_at sort.Quoted why.Syntax x.1) _ (λ (u : Unit {0} × List Lexeme). run true ns (Inside node) u.1))))
+    run_brace_first ns node x.1
+    ∙ (ext (sort_at sort.Quoted why.Syntax x.1) _ _ (λ q. run_brace_more ns node q.1 ∙ sym (assoc (expect_at (codes "}") why.Syntax (behind_quoted q.1)) _ (λ (u : Unit {0} × List Lexeme). run true ns (Inside node) u.1)))
+    ∙ sym (assoc (sort_at sort.Quoted why.Syntax x.1) _ (λ (u : Unit {0} × List Lexeme). run true ns (Inside node) u.1))))
     ∙ sym (assoc (expect_at (codes "pools") why.Syntax ts) _ (λ (u : Unit {0} × List Lexeme). run true ns (Inside node) u.1)))
 
 abbrev kept : Node → Unit {0} × List Lexeme → Read Node
@@ -130,7 +130,7 @@ run_braces ns node (t ∷ ts) = braces_by (bytes_eq t.bytes (codes "{")) ns node
 
 path_by : (b c : Bool) (ns : List Node) (node : Node) (t : Lexeme) (ts : List Lexeme)
     → behind t (if b then (let s : Step = if not c then Err why.Name else to ns (Braces (with_scratch node (content t))) in s) else to ns (Braces node)) (on ts)
-      ≡ ((let r : Ans Node = if b then ((let q : Ans (List ℕ) = if c then Ok (content t) else refuse t why.Name in q) >>= λ name. let r : Ans Node = Ok (with_scratch node name) in r) else Ok node in r) >>= λ more. run true ns (Braces more) ts)
+    ≡ ((let r : Ans Node = if b then ((let q : Ans (List ℕ) = if c then Ok (content t) else refuse t why.Name in q) >>= λ name. let r : Ans Node = Ok (with_scratch node name) in r) else Ok node in r) >>= λ more. run true ns (Braces more) ts)
 path_by true true ns node t ts = refl
 path_by true false ns node t ts = refl
 path_by false c ns node t ts = refl
@@ -143,12 +143,12 @@ unfolding resource_at
 run_resource ns node ts =
     run_sort sort.Word ns (Kind node) (λ t. to ns (Path t node)) refl (λ t. refl) ts
     ∙ (ext (sort_at sort.Word why.Syntax ts) _ _ (λ kind.
-        run_sort sort.Quoted ns (Path kind.0 node) (λ t. path_step true ns kind.0 node t) refl (λ t. refl) kind.1
-        ∙ (ext (sort_at sort.Quoted why.Syntax kind.1) _ _ (λ path.
-            run_path ns kind.0 node path.0 path.1
-            ∙ (ext (with_path node kind.0 path.0) _ _ (λ more. run_braces ns more path.1)
-            ∙ sym (assoc (with_path node kind.0 path.0) _ (inside ns))))
-        ∙ sym (assoc (sort_at sort.Quoted why.Syntax kind.1) _ (inside ns))))
+    run_sort sort.Quoted ns (Path kind.0 node) (λ t. path_step true ns kind.0 node t) refl (λ t. refl) kind.1
+    ∙ (ext (sort_at sort.Quoted why.Syntax kind.1) _ _ (λ path.
+    run_path ns kind.0 node path.0 path.1
+    ∙ (ext (with_path node kind.0 path.0) _ _ (λ more. run_braces ns more path.1)
+    ∙ sym (assoc (with_path node kind.0 path.0) _ (inside ns))))
+    ∙ sym (assoc (sort_at sort.Quoted why.Syntax kind.1) _ (inside ns))))
     ∙ sym (assoc (sort_at sort.Word why.Syntax ts) _ (inside ns)))
 
 run_fastname : (ns : List Node) (node : Node) (ts : List Lexeme) → run true ns (Fast node) ts ≡ (fastname_at node ts >>= inside ns)
@@ -160,7 +160,7 @@ run_fastname ns node ts =
 -- an entry, or the end of the node
 entry_by : (e a b c : Bool) (ns : List Node) (node : Node) (t : Lexeme) (ts : List Lexeme)
     → behind t (if e then to (ns ++ node ∷ []) NextNode else if a then to ns (Fast node) else if b then to ns (FirstPool node) else if c then to ns (Kind node) else Err why.Syntax) (on ts)
-      ≡ (if e then run true (ns ++ node ∷ []) NextNode ts else ((let r : Read Node = if a then fastname_at node ts else if b then pools_at node ts else if c then resource_at node ts else refuse t why.Syntax in r) >>= inside ns))
+    ≡ (if e then run true (ns ++ node ∷ []) NextNode ts else ((let r : Read Node = if a then fastname_at node ts else if b then pools_at node ts else if c then resource_at node ts else refuse t why.Syntax in r) >>= inside ns))
 entry_by true a b c ns node t ts = refl
 entry_by false true b c ns node t ts = run_fastname ns node ts
 entry_by false false true c ns node t ts = run_pools ns node ts
@@ -169,7 +169,7 @@ entry_by false false false false ns node t ts = refl
 
 ended_by : (e : Bool) (ns : List Node) (node : Node) (t : Lexeme) (ts : List Lexeme) (other : Run)
     → (if e then run true (ns ++ node ∷ []) NextNode ts else other)
-      ≡ (let p : Bool × List Lexeme = if e then (true, ts) else (false, t ∷ ts) in if p.0 then run true (ns ++ node ∷ []) NextNode p.1 else other)
+    ≡ (let p : Bool × List Lexeme = if e then (true, ts) else (false, t ∷ ts) in if p.0 then run true (ns ++ node ∷ []) NextNode p.1 else other)
 ended_by true ns node t ts other = refl
 ended_by false ns node t ts other = refl
 
@@ -196,7 +196,7 @@ run_closed one run_on done f e h zero x [] k = e x
 run_closed one run_on done f e h zero x (t ∷ ts) k = absurd (omega arith)
 run_closed one run_on done f e h (suc n) x ts k =
     h x ts ∙ closed_by one run_on done (accept_at (codes "}") ts) n x ts (one x ts) refl
-      (λ y rest r. let less = f x y ts rest r in run_closed one run_on done f e h n y rest (omega (arith, less)))
+    (λ y rest r. let less = f x y ts rest r in run_closed one run_on done f e h n y rest (omega (arith, less)))
 
 run_entries : (ns : List Node) (node : Node) (ts : List Lexeme) → run true ns (Inside node) ts ≡ (entries_at node ts >>= λ x. run true (ns ++ x.0 ∷ []) NextNode x.1)
 run_entries ns node ts =
@@ -220,7 +220,7 @@ room_by false ns x = refl
 
 named_by : (a b : Bool) (ns : List Node) (t : Lexeme) (ts : List Lexeme)
     → behind t (if not a then Err why.Name else if b then Err why.DoubleNode else to ns (Open (content t))) (on ts)
-      ≡ (((let r : Ans Lexeme = if a then Ok t else refuse t why.Name in r) >>= λ good. let r : Ans (List ℕ) = if b then refuse t why.DoubleNode else Ok (content t) in r) >>= λ new. run true ns (Open new) ts)
+    ≡ (((let r : Ans Lexeme = if a then Ok t else refuse t why.Name in r) >>= λ good. let r : Ans (List ℕ) = if b then refuse t why.DoubleNode else Ok (content t) in r) >>= λ new. run true ns (Open new) ts)
 named_by true true ns t ts = refl
 named_by true false ns t ts = refl
 named_by false b ns t ts = refl
@@ -238,18 +238,18 @@ unfolding node_at
 run_node ns ts =
     run_word_step (codes "node") ns FirstNode (if nat_le 64 (length ns) then Err why.TooMany else to ns NodeName) refl (λ t. refl) ts
     ∙ (ext (expect_at (codes "node") why.Syntax ts) _ _ (λ word.
-        room_by (nat_le 64 (length ns)) ns word
-        ∙ (ext (room ns word) _ _ (λ r.
-            run_sort sort.Quoted ns NodeName (λ t. name_step true ns t) refl (λ t. refl) word.1
-            ∙ (ext (sort_at sort.Quoted why.Syntax word.1) _ _ (λ name.
-                run_named ns name.0 name.1
-                ∙ (ext (named ns name.0) _ _ (λ new.
-                    run_word (codes "{") ns (Open new) ns (Inside (new_node new)) refl (λ t. refl) name.1
-                    ∙ (ext (expect_at (codes "{") why.Syntax name.1) _ _ (λ begin. run_entries ns (new_node new) begin.1)
-                    ∙ sym (assoc (expect_at (codes "{") why.Syntax name.1) _ (next_node ns))))
-                ∙ sym (assoc (named ns name.0) _ (next_node ns))))
-            ∙ sym (assoc (sort_at sort.Quoted why.Syntax word.1) _ (next_node ns))))
-        ∙ sym (assoc (room ns word) _ (next_node ns))))
+    room_by (nat_le 64 (length ns)) ns word
+    ∙ (ext (room ns word) _ _ (λ r.
+    run_sort sort.Quoted ns NodeName (λ t. name_step true ns t) refl (λ t. refl) word.1
+    ∙ (ext (sort_at sort.Quoted why.Syntax word.1) _ _ (λ name.
+    run_named ns name.0 name.1
+    ∙ (ext (named ns name.0) _ _ (λ new.
+    run_word (codes "{") ns (Open new) ns (Inside (new_node new)) refl (λ t. refl) name.1
+    ∙ (ext (expect_at (codes "{") why.Syntax name.1) _ _ (λ begin. run_entries ns (new_node new) begin.1)
+    ∙ sym (assoc (expect_at (codes "{") why.Syntax name.1) _ (next_node ns))))
+    ∙ sym (assoc (named ns name.0) _ (next_node ns))))
+    ∙ sym (assoc (sort_at sort.Quoted why.Syntax word.1) _ (next_node ns))))
+    ∙ sym (assoc (room ns word) _ (next_node ns))))
     ∙ sym (assoc (expect_at (codes "node") why.Syntax ts) _ (next_node ns)))
 
 abbrev next_nodes : List Node × List Lexeme → Run
@@ -261,7 +261,7 @@ run_further ns ts = run_node ns ts ∙ sym (assoc (node_at ns ts) _ next_nodes)
 
 next_by : (c : Bool) (ns : List Node) (t : Lexeme) (ts : List Lexeme)
     → behind t (if c then to ns End else node_step true ns t) (on ts)
-      ≡ (let p : Bool × List Lexeme = if c then (true, ts) else (false, t ∷ ts) in if p.0 then run true ns End p.1 else (further_node_at ns (t ∷ ts) >>= next_nodes))
+    ≡ (let p : Bool × List Lexeme = if c then (true, ts) else (false, t ∷ ts) in if p.0 then run true ns End p.1 else (further_node_at ns (t ∷ ts) >>= next_nodes))
 next_by true ns t ts = refl
 next_by false ns t ts = run_further ns (t ∷ ts)
 
@@ -284,7 +284,7 @@ unfolding text_at
 machine_reads ts =
     run_word (codes "{") [] Begin [] FirstNode refl (λ t. refl) ts
     ∙ ext (expect_at (codes "{") why.Syntax ts) _ _ (λ begin.
-        run_further [] begin.1
-        ∙ ext (further_node_at [] begin.1) _ _ (λ first.
-            run_nodes first.0 first.1
-            ∙ ext (nodes_at first.0 first.1) _ _ (λ nodes. run_end nodes.0 nodes.1)))
+    run_further [] begin.1
+    ∙ ext (further_node_at [] begin.1) _ _ (λ first.
+    run_nodes first.0 first.1
+    ∙ ext (nodes_at first.0 first.1) _ _ (λ nodes. run_end nodes.0 nodes.1)))

@@ -170,28 +170,28 @@ Goal b ns End ts res = (ts ≡ []) × (res ≡ ns)
 -- a first entry before further ones
 first_entry : (b : Bool) (ns : List Node) (node : Node) (e : Entry) (ts us : List Lexeme) (res : List Node) → ts ≡ entry_tokens e ++ us → IsEntry e → When b (NamedEntry e) → Rest b ns (more_of node (pools_of e) (scratch_of e)) us res → Rest b ns node ts res
 first_entry b ns node e ts us res t h n r = record {
-      entries = e ∷ r.entries;
-      end = r.end;
-      more = r.more;
-      tokens = t ∙ (ap (λ vs. entry_tokens e ++ vs) r.tokens ∙ sym (append_assoc (entry_tokens e) (flat_map entry_tokens r.entries) (r.end ∷ r.more)));
-      each = (h, r.each);
-      closed = r.closed;
-      named = named_more b e r.entries n r.named;
-      nodes = let P : Node → Type 0 = λ m. Nodes b (ns ++ m ∷ []) r.more res in subst P (more_more node (pools_of e) (flat_map pools_of r.entries) (scratch_of e) (flat_map scratch_of r.entries)) r.nodes;
-    }
+  entries = e ∷ r.entries;
+  end = r.end;
+  more = r.more;
+  tokens = t ∙ (ap (λ vs. entry_tokens e ++ vs) r.tokens ∙ sym (append_assoc (entry_tokens e) (flat_map entry_tokens r.entries) (r.end ∷ r.more)));
+  each = (h, r.each);
+  closed = r.closed;
+  named = named_more b e r.entries n r.named;
+  nodes = let P : Node → Type 0 = λ m. Nodes b (ns ++ m ∷ []) r.more res in subst P (more_more node (pools_of e) (flat_map pools_of r.entries) (scratch_of e) (flat_map scratch_of r.entries)) r.nodes;
+}
 
 -- the end of a node
 node_ended : (b : Bool) (ns : List Node) (node : Node) (t : Lexeme) (ts : List Lexeme) (res : List Node) → Is (codes "}") t → Nodes b (ns ++ node ∷ []) ts res → Rest b ns node (t ∷ ts) res
 node_ended b ns node t ts res h n = record {
-      entries = [];
-      end = t;
-      more = ts;
-      tokens = refl;
-      each = tt;
-      closed = h;
-      named = when_both b _ _ (when_unit b) (when_unit b);
-      nodes = let P : Node → Type 0 = λ m. Nodes b (ns ++ m ∷ []) ts res in subst P (sym (more_none node)) n;
-    }
+  entries = [];
+  end = t;
+  more = ts;
+  tokens = refl;
+  each = tt;
+  closed = h;
+  named = when_both b _ _ (when_unit b) (when_unit b);
+  nodes = let P : Node → Type 0 = λ m. Nodes b (ns ++ m ∷ []) ts res in subst P (sym (more_none node)) n;
+}
 
 fastname_given : (b : Bool) (ns : List Node) (node : Node) (t : Lexeme) (ts : List Lexeme) (res : List Node) → Is (codes "fastname") t → One IsQuoted (λ us. Rest b ns node us res) ts → Rest b ns node (t ∷ ts) res
 fastname_given b ns node t ts res h q =
@@ -205,14 +205,14 @@ pools_given b ns node t ts res h q =
 resource_given : (b : Bool) (ns : List Node) (node : Node) (t : Lexeme) (ts : List Lexeme) (res : List Node) → Is (codes "resource") t → (k : AtKind b ns node ts res) → AfterPath b ns (more_of node [] (scratch_path k.kind k.rest.path)) k.rest.more res → Rest b ns node (t ∷ ts) res
 resource_given b ns node t ts res h k (inl r) =
     first_entry b ns node (Resource t k.kind k.rest.path) (t ∷ ts) k.rest.more res
-      (ap (λ us. t ∷ us) k.tokens ∙ ap (λ us. t ∷ k.kind ∷ us) k.rest.tokens)
-      (h, k.word, k.rest.quoted) (when_both b _ _ (when_unit b) k.rest.named) r
+    (ap (λ us. t ∷ us) k.tokens ∙ ap (λ us. t ∷ k.kind ∷ us) k.rest.tokens)
+    (h, k.word, k.rest.quoted) (when_both b _ _ (when_unit b) k.rest.named) r
 resource_given b ns node t ts res h k (inr o) =
     let x = o.1.1.1.1 in
     let u = x.1.1.1.1 in
     first_entry b ns node (PooledResource t k.kind k.rest.path o.0 x.0 u.names u.end) (t ∷ ts) u.more res
-      (ap (λ us. t ∷ us) k.tokens ∙ (ap (λ us. t ∷ k.kind ∷ us) k.rest.tokens ∙ (ap (λ us. t ∷ k.kind ∷ k.rest.path ∷ us) o.1.1.0 ∙ (ap (λ us. t ∷ k.kind ∷ k.rest.path ∷ o.0 ∷ us) x.1.1.0 ∙ ap (λ us. t ∷ k.kind ∷ k.rest.path ∷ o.0 ∷ x.0 ∷ us) (u.tokens ∙ sym (append_assoc u.names (u.end ∷ []) u.more))))))
-      (h, k.word, k.rest.quoted, o.1.1.1.0, x.1.1.1.0, record { some = u.many; each = u.each }, u.closed) (when_both b _ _ (when_unit b) k.rest.named) u.rest
+    (ap (λ us. t ∷ us) k.tokens ∙ (ap (λ us. t ∷ k.kind ∷ us) k.rest.tokens ∙ (ap (λ us. t ∷ k.kind ∷ k.rest.path ∷ us) o.1.1.0 ∙ (ap (λ us. t ∷ k.kind ∷ k.rest.path ∷ o.0 ∷ us) x.1.1.0 ∙ ap (λ us. t ∷ k.kind ∷ k.rest.path ∷ o.0 ∷ x.0 ∷ us) (u.tokens ∙ sym (append_assoc u.names (u.end ∷ []) u.more))))))
+    (h, k.word, k.rest.quoted, o.1.1.1.0, x.1.1.1.0, record { some = u.many; each = u.each }, u.closed) (when_both b _ _ (when_unit b) k.rest.named) u.rest
 
 abbrev Further : Bool → List Lexeme → List Node → Type 0
 Further b ts res = (ns : List Node) (s : Stand) → run b ns s ts ≡ Ok res → Goal b ns s ts res
@@ -231,7 +231,7 @@ inside_by false false false false b ns node t ts res f g h k more x = cc
 inside_given : (b : Bool) (ns : List Node) (node : Node) (t : Lexeme) (ts : List Lexeme) (res : List Node) → IsToken t → Further b ts res → behind t (inside_step ns node t) (λ ms next. run b ms next ts) ≡ Ok res → Rest b ns node (t ∷ ts) res
 inside_given b ns node t ts res k more x =
     inside_by (bytes_eq t.bytes (codes "}")) (bytes_eq t.bytes (codes "fastname")) (bytes_eq t.bytes (codes "pools")) (bytes_eq t.bytes (codes "resource")) b ns node t ts res
-      (is_word (codes "}") t k refl) (is_word (codes "fastname") t k refl) (is_word (codes "pools") t k refl) (is_word (codes "resource") t k refl) more x
+    (is_word (codes "}") t k refl) (is_word (codes "fastname") t k refl) (is_word (codes "pools") t k refl) (is_word (codes "resource") t k refl) more x
 
 -- a further pool
 pool_given : (some b : Bool) (ns : List Node) (node : Node) (t : Lexeme) (ts : List Lexeme) (res : List Node) → IsQuoted t → Further b ts res → behind t (pool_step b ns node t) (λ ms next. run b ms next ts) ≡ Ok res → Quoteds some b ns node (t ∷ ts) res
@@ -261,15 +261,15 @@ more_given false b ns node t ts res q k more x = no_pool b ns node (t ∷ ts) re
 -- pools of a resource
 brace_given : (some b : Bool) (ns : List Node) (node : Node) (t : Lexeme) (ts : List Lexeme) (res : List Node) → IsQuoted t → Unused false b ns node ts res → Unused some b ns node (t ∷ ts) res
 brace_given some b ns node t ts res q u = record {
-      names = t ∷ u.names;
-      end = u.end;
-      more = u.more;
-      tokens = ap (λ us. t ∷ us) u.tokens;
-      many = when_true some (omega arith);
-      each = (q, u.each);
-      closed = u.closed;
-      rest = u.rest;
-    }
+  names = t ∷ u.names;
+  end = u.end;
+  more = u.more;
+  tokens = ap (λ us. t ∷ us) u.tokens;
+  many = when_true some (omega arith);
+  each = (q, u.each);
+  closed = u.closed;
+  rest = u.rest;
+}
 
 brace_ended : (b : Bool) (ns : List Node) (node : Node) (t : Lexeme) (ts : List Lexeme) (res : List Node) → Is (codes "}") t → Rest b ns node ts res → Unused false b ns node (t ∷ ts) res
 brace_ended b ns node t ts res h r = record { names = []; end = t; more = ts; tokens = refl; many = tt; each = tt; closed = h; rest = r }

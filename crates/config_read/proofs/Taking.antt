@@ -89,10 +89,10 @@ takes_brace_more b ns node (x ∷ qs) e rest q h = rw q.0 (takes_brace_more b ns
 
 path_taken : (c b : Bool) (ns : List Node) (node : Node) (t : Lexeme) (ts : List Lexeme) → When b (AllByRecursion IsName0 (if c then content t ∷ [] else []))
     → behind t (if c then (if b && not (is_name0 (content t)) then Err why.Name else to ns (Braces (with_scratch node (content t)))) else to ns (Braces node)) (λ ms next. run b ms next ts)
-      ≡ run b ns (Braces (more_of node [] (if c then content t ∷ [] else []))) ts
+    ≡ run b ns (Braces (more_of node [] (if c then content t ∷ [] else []))) ts
 path_taken true b ns node t ts n =
     rw (passes b (is_name0 (content t)) (when_map b _ _ (λ p. name0_tested (content t) p.0) n))
-      (ap (λ xs. run b ns (Braces (let n : Node = record { name = node.name; pools = xs; scratch = node.scratch ++ content t ∷ [] } in n)) ts) (sym (append-nil node.pools)))
+    (ap (λ xs. run b ns (Braces (let n : Node = record { name = node.name; pools = xs; scratch = node.scratch ++ content t ∷ [] } in n)) ts) (sym (append-nil node.pools)))
 path_taken false b ns node t ts n = ap (λ m. run b ns (Braces m) ts) (sym (more_none node))
 
 takes_path : (b : Bool) (ns : List Node) (node : Node) (w k p : Lexeme) (ts : List Lexeme) → Is (codes "resource") w → IsWord k → IsQuoted p → When b (AllByRecursion IsName0 (scratch_path k p)) → run b ns (Inside node) (w ∷ k ∷ p ∷ ts) ≡ run b ns (Braces (more_of node [] (scratch_path k p))) ts
@@ -180,15 +180,15 @@ takes_name b ns t ts n h = rw (passes b (is_name (content t)) (when_map b _ _ (n
 takes_body : (b : Bool) (ns : List Node) (x : NodeText) (rest : List Lexeme) → IsNodeText x → When b (Fits ns (node_of x)) → run b ns (Open (content x.name)) (x.begin ∷ ((flat_map entry_tokens x.entries ++ x.end ∷ []) ++ rest)) ≡ run b (ns ++ node_of x ∷ []) NextNode rest
 takes_body b ns x rest h f =
     rw h.begin.bytes
-      (ap (λ ts. run b ns (Inside (new_node (content x.name))) ts) (append_assoc (flat_map entry_tokens x.entries) (x.end ∷ []) rest)
-      ∙ (takes_entries b ns (new_node (content x.name)) x.entries (x.end ∷ rest) h.entries (when_map b _ _ (λ p. (p.named.pools, p.named.scratch)) f) (word_follows (codes "}") x.end [] h.end refl)
-      ∙ rw h.end.bytes refl))
+    (ap (λ ts. run b ns (Inside (new_node (content x.name))) ts) (append_assoc (flat_map entry_tokens x.entries) (x.end ∷ []) rest)
+    ∙ (takes_entries b ns (new_node (content x.name)) x.entries (x.end ∷ rest) h.entries (when_map b _ _ (λ p. (p.named.pools, p.named.scratch)) f) (word_follows (codes "}") x.end [] h.end refl)
+    ∙ rw h.end.bytes refl))
 
 takes_node : (b : Bool) (ns : List Node) (x : NodeText) (rest : List Lexeme) → IsNodeText x → When b (Fits ns (node_of x)) → run b ns FirstNode (node_tokens x ++ rest) ≡ run b (ns ++ node_of x ∷ []) NextNode rest
 takes_node b ns x rest h f =
     rw (h.word.bytes, passes_new b (nat_le 64 (length ns)) (when_map b _ _ (λ p. lt-leb 64 (length ns) p.room) f), h.name)
-      (takes_name b ns x.name (x.begin ∷ ((flat_map entry_tokens x.entries ++ x.end ∷ []) ++ rest)) (when_map b _ _ (λ p. p.named.name) f) (when_map b _ _ (λ p. p.new) f)
-      ∙ takes_body b ns x rest h f)
+    (takes_name b ns x.name (x.begin ∷ ((flat_map entry_tokens x.entries ++ x.end ∷ []) ++ rest)) (when_map b _ _ (λ p. p.named.name) f) (when_map b _ _ (λ p. p.new) f)
+    ∙ takes_body b ns x rest h f)
 
 -- the first token of a node ends no configuration
 node_next : (b : Bool) (ns : List Node) (x : NodeText) (rest : List Lexeme) → IsNodeText x → run b ns NextNode (node_tokens x ++ rest) ≡ run b ns FirstNode (node_tokens x ++ rest)

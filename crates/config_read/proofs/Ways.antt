@@ -44,10 +44,10 @@ fresh_behind front [] = refl
 fresh_behind front (n ∷ ns) =
     let c = other (get_or n.name (length front) 0) in
     or_from _ _
-      (false_from_ne_true _ (λ e.
-        let same = (bytes_eq-Decides n.name (front ++ c ∷ fresh (length front + 1) ns)).0 e in
-        differs (get_or n.name (length front) 0) (ap (λ xs. get_or xs (length front) 0) same ∙ get_or-append_seam front c (fresh (length front + 1) ns) 0)))
-      (ap (λ xs. has_node ns xs) (moved front c (fresh (length front + 1) ns) ∙ ap (λ k. (front ++ c ∷ []) ++ fresh k ns) (sym (length-append front (c ∷ [])))) ∙ fresh_behind (front ++ c ∷ []) ns)
+    (false_from_ne_true _ (λ e.
+    let same = (bytes_eq-Decides n.name (front ++ c ∷ fresh (length front + 1) ns)).0 e in
+    differs (get_or n.name (length front) 0) (ap (λ xs. get_or xs (length front) 0) same ∙ get_or-append_seam front c (fresh (length front + 1) ns) 0)))
+    (ap (λ xs. has_node ns xs) (moved front c (fresh (length front + 1) ns) ∙ ap (λ k. (front ++ c ∷ []) ++ fresh k ns) (sym (length-append front (c ∷ [])))) ∙ fresh_behind (front ++ c ∷ []) ns)
 
 new_name : (ns : List Node) → has_node ns (fresh 0 ns) ≡ false
 new_name ns = fresh_behind [] ns

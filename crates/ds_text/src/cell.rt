@@ -42,10 +42,8 @@ fn begins_quoted(bytes: &[u8]) -> bool
 /// The content of a quoted field, and how many bytes it takes with its closing quote.
 fn unquote(bytes: &[u8], into: &mut Bytes) -> Result<Option<usize>, NoMemory>
     requires { into.old ≡ [] }
-    ensures some {
-        (n : ℕ) → result ≡ Ok (Some n)
-        → unquoted false bytes.now ≡ Some (record { bytes = into.new; rest = drop n bytes.now })
-    }
+    ensures some { (n : ℕ) → result ≡ Ok (Some n)
+        → unquoted false bytes.now ≡ Some (record { bytes = into.new; rest = drop n bytes.now }) }
     ensures within { IfOk result (λ r. IfSome r (λ n. n ≤ length bytes.now)) }
     ensures none { result ≡ Ok None → unquoted false bytes.now ≡ None }
 {
@@ -91,10 +89,8 @@ fn is_null_cell(field: &Field, quoted: bool, bytes: &[u8]) -> bool
 fn meaning(alloc: Global, field: &Field, quoted: bool, bytes: &[u8]) -> Result<Value, RecordFault>
     requires { IsKind field.now.kind }
     ensures found { IfOk result (λ value. Means field.now quoted bytes.now value) }
-    ensures bad {
-        result ≡ Err RecordFault.Bad
-        → MeansNone (is_null_cell field.now quoted bytes.now) field.now.kind bytes.now
-    }
+    ensures bad { result ≡ Err RecordFault.Bad
+        → MeansNone (is_null_cell field.now quoted bytes.now) field.now.kind bytes.now }
 {
     null_or(
         alloc,

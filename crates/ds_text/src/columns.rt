@@ -75,9 +75,7 @@ fn trimmed<'a>(kind: &Kind, column: &'a [u8]) -> &'a [u8]
 fn column_value(alloc: Global, field: &Field, column: &[u8]) -> Result<Value, RecordFault>
     requires { IsKind field.now.kind }
     ensures found { IfOk result (λ value. MeansColumn field.now column.now value) }
-    ensures bad {
-        result ≡ Err RecordFault.Bad → (value : Datum) → MeansColumn field.now column.now value → ⊥
-    }
+    ensures bad { result ≡ Err RecordFault.Bad → (value : Datum) → MeansColumn field.now column.now value → ⊥ }
 {
     let null = field.nullable && is_blank(column);
     null_or(alloc, null, &field.kind, trimmed(&field.kind, column))
@@ -101,10 +99,8 @@ pub fn read_columns(
     requires widths { length widths.now ≡ length fields.now }
     requires fields { AllByRecursion IsField fields.now }
     ensures found { IfOk result (λ row. SpellsFixed fields.now widths.now line.now row.items) }
-    ensures bad {
-        result ≡ Err RecordFault.Bad
-        → (row : List Datum) → SpellsFixed fields.now widths.now line.now row → ⊥
-    }
+    ensures bad { result ≡ Err RecordFault.Bad
+        → (row : List Datum) → SpellsFixed fields.now widths.now line.now row → ⊥ }
 {
     let mut row = match Vec::with_capacity(alloc, fields.len()) {
         Ok(row) => row,

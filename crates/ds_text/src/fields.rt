@@ -31,10 +31,8 @@ pub fn read_fields(
     requires delimiter { (delimiter == 34) ≡ false }
     requires fields { AllByRecursion IsField fields.now }
     ensures found { IfOk result (λ row. SpellsFields delimiter fields.now (Some line.now) row.items) }
-    ensures bad {
-        result ≡ Err RecordFault.Bad
-        → (row : List Datum) → SpellsFields delimiter fields.now (Some line.now) row → ⊥
-    }
+    ensures bad { result ≡ Err RecordFault.Bad
+        → (row : List Datum) → SpellsFields delimiter fields.now (Some line.now) row → ⊥ }
 {
     let mut row = match Vec::with_capacity(alloc, fields.len()) {
         Ok(row) => row,

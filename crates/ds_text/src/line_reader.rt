@@ -47,14 +47,12 @@ impl<S: Source> Model for Lines<S> {
 
     ghost Value = { Reader };
 
-    ghost view = {
-        λ l. record {
-            left = take (l.end - l.at) (drop l.at l.buf.items) ++ S.rest l.source;
-            room = 2 ^ 40 - l.taken + (l.end - l.at);
-            held = l.end - l.at;
-            faults = S.faults l.source
-        }
-    };
+    ghost view = { λ l. record {
+      left = take (l.end - l.at) (drop l.at l.buf.items) ++ S.rest l.source;
+      room = 2 ^ 40 - l.taken + (l.end - l.at);
+      held = l.end - l.at;
+      faults = S.faults l.source;
+    } };
 
     ghost invariant = { λ l. (l.at ≤ l.end) × (l.end ≤ vec_len l.buf) × (l.taken ≤ 2 ^ 40) };
 }
@@ -112,18 +110,12 @@ fn end_of_line(bytes: &[u8]) -> Option<usize>
 fn fill<S: Source>(source: &mut S, buf: &mut Vec<u8>, taken: u64) -> Result<usize, LineFault>
     requires { taken ≤ 2 ^ 40 }
     ensures bound { IfOk result (λ n. (n ≤ vec_len buf.new) × (taken + n ≤ 2 ^ 40)) }
-    ensures told {
-        IsTrue S.tells
-        → IfOk result (λ n. S.rest source.old ≡ take n buf.new.items ++ S.rest source.new)
-    }
+    ensures told { IsTrue S.tells
+        → IfOk result (λ n. S.rest source.old ≡ take n buf.new.items ++ S.rest source.new) }
     ensures none { IsTrue S.tells → result ≡ Ok 0 → S.rest source.old ≡ [] }
     ensures full { result ≡ Err LineFault.FileTooLong → taken ≡ 2 ^ 40 }
-    ensures long {
-        IsTrue S.tells → result ≡ Err LineFault.FileTooLong → 0 < length (S.rest source.old)
-    }
-    ensures cause {
-        HasCause (S.faults source.old) (S.faults source.new) (result ≡ Err LineFault.Device)
-    }
+    ensures long { IsTrue S.tells → result ≡ Err LineFault.FileTooLong → 0 < length (S.rest source.old) }
+    ensures cause { HasCause (S.faults source.old) (S.faults source.new) (result ≡ Err LineFault.Device) }
 {
     if taken == MOST {
         return probe(source);
@@ -141,16 +133,10 @@ fn fill<S: Source>(source: &mut S, buf: &mut Vec<u8>, taken: u64) -> Result<usiz
 
 /// Whether a source has no byte left, where no more may be taken.
 fn probe<S: Source>(source: &mut S) -> Result<usize, LineFault>
-    ensures told {
-        IsTrue S.tells → IfOk result (λ _. (S.rest source.old ≡ []) × (S.rest source.new ≡ []))
-    }
+    ensures told { IsTrue S.tells → IfOk result (λ _. (S.rest source.old ≡ []) × (S.rest source.new ≡ [])) }
     ensures zero { IfOk result (λ n. n ≡ 0) }
-    ensures long {
-        IsTrue S.tells → result ≡ Err LineFault.FileTooLong → 0 < length (S.rest source.old)
-    }
-    ensures cause {
-        HasCause (S.faults source.old) (S.faults source.new) (result ≡ Err LineFault.Device)
-    }
+    ensures long { IsTrue S.tells → result ≡ Err LineFault.FileTooLong → 0 < length (S.rest source.old) }
+    ensures cause { HasCause (S.faults source.old) (S.faults source.new) (result ≡ Err LineFault.Device) }
 {
     let mut one = [0u8; 1];
     match source.read(&mut one) {
@@ -195,9 +181,7 @@ impl<S: Source> Lines<S> {
         ensures room { self.new.room ≡ self.old.room }
         ensures none { IsTrue S.tells → result ≡ Ok false → self.old.left ≡ [] }
         ensures full { result ≡ Err LineFault.FileTooLong → self.old.room ≡ 0 }
-        ensures long {
-            IsTrue S.tells → result ≡ Err LineFault.FileTooLong → 0 < length self.old.left
-        }
+        ensures long { IsTrue S.tells → result ≡ Err LineFault.FileTooLong → 0 < length self.old.left }
         ensures cause { HasCause self.old.faults self.new.faults (result ≡ Err LineFault.Device) }
     {
         if self.at < self.end {
@@ -240,9 +224,7 @@ impl<S: Source> Lines<S> {
 
     /// The next line without its end. After an error only `into_inner` is of use.
     pub fn next_line(&mut self, into: &mut Bytes) -> Result<LineEnd, LineFault>
-        ensures line {
-            IsTrue S.tells → Reads result (remaining self.old) into.new (remaining self.new)
-        }
+        ensures line { IsTrue S.tells → Reads result (remaining self.old) into.new (remaining self.new) }
         ensures short { IfOk result (λ _. length into.new ≤ 2_097_153) }
 
         // These hold of a source that tells nothing too.

@@ -155,9 +155,7 @@ pub fn write_line(
 ) -> Result<(), RecordFault>
     requires form { FormFits schema.now form.now }
     requires fits { row_fits schema.now row.now ≡ true }
-    ensures ok {
-        OnOk result (into.new ≡ into.old ++ (written_row form.now schema.now row.now ++ 10 ∷ []))
-    }
+    ensures ok { OnOk result (into.new ≡ into.old ++ (written_row form.now schema.now row.now ++ 10 ∷ [])) }
     ensures writable { OnOk result (is_refused form.now schema.now row.now ≡ false) }
     ensures bad { result ≡ Err RecordFault.Bad → is_refused form.now schema.now row.now ≡ true }
     ensures err { OnErr result (into.new ≡ into.old) }
@@ -189,10 +187,7 @@ pub fn spelled_fits()
 {}
 
 /// What is written reads back as the same row, and a file of rows as these rows.
-#[tactic(auto, using(
-    crate::proofs::RecordProofs::reads_back,
-    crate::proofs::RecordProofs::file_reads_back
-))]
+#[tactic(auto, using(crate::proofs::RecordProofs::reads_back, crate::proofs::RecordProofs::file_reads_back))]
 pub fn reads_back()
     ensures row { ReadsBack }
     ensures file { FileReadsBack }

@@ -77,9 +77,7 @@ pub fn write_columns(
     requires widths { length widths.now ≡ length fields.now }
     requires fields { AllByRecursion IsField fields.now }
     requires fits { row_fits fields.now row.now ≡ true }
-    ensures ok {
-        OnOk result (into.new ≡ into.old ++ written_columns fields.now widths.now row.now)
-    }
+    ensures ok { OnOk result (into.new ≡ into.old ++ written_columns fields.now widths.now row.now) }
     ensures narrow { OnOk result (any_wide fields.now widths.now row.now ≡ false) }
     ensures bad { result ≡ Err RecordFault.Bad → any_wide fields.now widths.now row.now ≡ true }
 {
