@@ -7,6 +7,7 @@ use Rattle.std.proofs.lemmas.List.Sums.{list_all-from_AllPass}
 use Rattle.std.proofs.lemmas.Bool.Decides.{nat_tests}
 use Rattle.ds_value.specs.Names.{IsName, is_name_byte}
 use Rattle.ds_schema.specs.declared.schema.Field.{Field}
+use Rattle.ds_schema.specs.Schemas.{IsSchema}
 use Rattle.ds_schema.specs.SchemaText.{schema_text}
 use Rattle.osh.specs.declared.flow.Path.{Path}
 use Rattle.osh.specs.Clashes.{Clash}
@@ -69,3 +70,13 @@ module _ (text s f t : List ℕ) (cut : IsCut text s f t) (path : Path) (flow : 
 
   pub schema_spelled : SpellsSchema f path.schema
   schema_spelled = record { spelled = same.1; schema_is = flow.schema_is; built = flow.built }
+
+one_schema : (a b : List Field) → IsSchema a → IsSchema b → schema_text a ≡ schema_text b → a ≡ b
+one_schema a b p q e = ?
+
+-- a text spells one flow
+pub one_flow : (text : List ℕ) (p q : Path) → IsFlow text p → IsFlow text q → p ≡ q
+one_flow text p q f g =
+    let cut = same text p.source (schema_text p.schema) p.target (cut_of_flow text p f) q g in
+    let schema = one_schema p.schema q.schema f.schema_is g.schema_is cut.1 in
+    λ i. record { source = cut.0 i; schema = schema i; target = cut.2 i }

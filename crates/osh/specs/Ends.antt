@@ -19,7 +19,7 @@ pub data End : Type 0 where
 
 -- a run that has no faults writes the exported text, and else tells how many faults there are and the least of them
 abbrev pub Finishes : List ℕ → Meaning → List Fault → End → Type 0
-Finishes target m [] end = end ≡ done target m.exported (report m)
+Finishes target m [] end = end ≡ done target m.exported (report (length m.imported) (length m.copied))
 Finishes target m (f ∷ fs) end = (least : Fault) × IsLeast least (f ∷ fs) × (end ≡ faulty (fault_report (length (f ∷ fs)) least))
 
 abbrev pub RunsTo : Path → List ℕ → End → Type 0

@@ -1,55 +1,52 @@
 -- What a run prints.
-use Rattle.std.specs.Prelude.{ℕ, min, ◌^◌, ◌-◌, ◌+◌, ◌/◌, ◌%◌, List, [], ◌∷◌, ◌++◌, length, codes, nat_lt, if◌then◌else◌}
+use Rattle.std.specs.Prelude.{ℕ, min, ◌^◌, ◌-◌, ◌+◌, ◌/◌, ◌%◌, List, [], ◌∷◌, ◌++◌, codes, nat_lt, if◌then◌else◌}
 use Rattle.std.specs.List.{flat_map}
 use Rattle.std.specs.Fmt.{decimal}
 use Rattle.op_base.specs.declared.fault.Fault.{Fault}
 use Rattle.op_base.specs.declared.fault.FaultKind.{FaultKind}
 use Rattle.op_base.specs.declared.fault.FaultKind.TheVariants as kind
-use Rattle.osh.specs.Meaning.{Meaning}
-
-abbrev pub line : List ℕ → List ℕ
-line text = text ++ 10 ∷ []
 
 -- an operator on one partition
 abbrev pub op_line : ℕ → List ℕ → List ℕ
-op_line i name = line (codes "op " ++ (decimal i ++ (codes " " ++ (name ++ codes " seq 1"))))
+op_line i name = codes "op " ++ (decimal i ++ (codes " " ++ (name ++ codes " seq 1\n")))
 
 -- a link from output 0 of an operator to input 0 of another
 abbrev pub link_line : ℕ → ℕ → ℕ → List ℕ → List ℕ
-link_line l from to method = line (codes "link " ++ (decimal l ++ (codes " " ++ (decimal from ++ (codes ".0 " ++ (decimal to ++ (codes ".0 " ++ method)))))))
+link_line l from to method = codes "link " ++ (decimal l ++ (codes " " ++ (decimal from ++ (codes ".0 " ++ (decimal to ++ (codes ".0 " ++ (method ++ codes "\n")))))))
 
-abbrev pub players_line : ℕ → List ℕ
-players_line n = line (codes "players " ++ decimal n)
-
--- a link whose state is one partition, exact and not sorted
+-- the state of a link: one partition, which is exactly the whole list, and no order
 abbrev pub state_line : ℕ → List ℕ
-state_line l = line (codes "link " ++ (decimal l ++ codes " agree() solo sort()"))
+state_line l = codes "link " ++ (decimal l ++ codes " agree() solo sort()\n")
 
 abbrev pub exact_line : ℕ → List ℕ
-exact_line sink = line (codes "sink " ++ (decimal sink ++ codes " exact"))
+exact_line sink = codes "sink " ++ (decimal sink ++ codes " exact\n")
+
+-- import, copy and export, one after another on one node
+abbrev pub op_lines : List ℕ
+op_lines = op_line 0 (codes "import") ++ (op_line 1 (codes "copy") ++ op_line 2 (codes "export"))
+
+abbrev pub link_lines : List ℕ
+link_lines = link_line 0 0 1 (codes "same") ++ link_line 1 1 2 (codes "same")
 
 abbrev pub score : List ℕ
-score =
-    line (codes "score nodes 1")
-    ++ (op_line 0 (codes "import") ++ (op_line 1 (codes "copy") ++ (op_line 2 (codes "export")
-    ++ (link_line 0 0 1 (codes "same") ++ (link_line 1 1 2 (codes "same") ++ players_line 3)))))
+score = codes "score nodes 1\n" ++ (op_lines ++ (link_lines ++ codes "players 3\n"))
 
 abbrev pub verdict : List ℕ
-verdict = line (codes "verdict accepted") ++ (state_line 0 ++ (state_line 1 ++ exact_line 2))
+verdict = codes "verdict accepted\n" ++ (state_line 0 ++ (state_line 1 ++ exact_line 2))
+
+abbrev pub head : List ℕ
+head = score ++ verdict
 
 -- a number of rows or faults, up to the limit of counts
 abbrev pub count : ℕ → List ℕ
 count n = decimal (min n (2 ^ 63 - 1))
 
 abbrev pub count_line : ℕ → ℕ → List ℕ
-count_line l n = line (codes "count " ++ (decimal l ++ (codes " " ++ count n)))
+count_line l n = codes "count " ++ (decimal l ++ (codes " " ++ (count n ++ codes "\n")))
 
-abbrev pub status_line : ℕ → List ℕ
-status_line status = line (codes "status " ++ decimal status)
-
--- the report of a run without faults
-abbrev pub report : Meaning → List ℕ
-report m = score ++ (verdict ++ (count_line 0 (length m.imported) ++ (count_line 1 (length m.copied) ++ status_line 0)))
+-- the report of a run without faults, from the numbers of rows on the two links
+abbrev pub report : ℕ → ℕ → List ℕ
+report imported copied = head ++ (count_line 0 imported ++ (count_line 1 copied ++ codes "status 0\n"))
 
 abbrev pub kind_name : FaultKind → List ℕ
 kind_name kind.BadRecord = codes "BadRecord"
@@ -77,11 +74,15 @@ bytes_text [] = codes "-"
 bytes_text (b ∷ bs) = hexadecimal (b ∷ bs)
 
 abbrev pub faults_line : ℕ → List ℕ
-faults_line n = line (codes "faults " ++ count n)
+faults_line n = codes "faults " ++ (count n ++ codes "\n")
+
+-- the least fault, up to its bytes
+abbrev pub least_head : Fault → List ℕ
+least_head f = codes "least op " ++ (decimal f.op ++ (codes " " ++ (kind_name f.kind ++ (codes " " ++ (decimal f.place ++ codes " ")))))
 
 abbrev pub least_line : Fault → List ℕ
-least_line f = line (codes "least op " ++ (decimal f.op ++ (codes " " ++ (kind_name f.kind ++ (codes " " ++ (decimal f.place ++ (codes " " ++ bytes_text f.bytes)))))))
+least_line f = least_head f ++ (bytes_text f.bytes ++ codes "\n")
 
 -- the report of a run with so many faults
 abbrev pub fault_report : ℕ → Fault → List ℕ
-fault_report n least = score ++ (verdict ++ (faults_line n ++ (least_line least ++ status_line 9)))
+fault_report n least = head ++ (faults_line n ++ (least_line least ++ codes "status 9\n"))
