@@ -10,8 +10,8 @@ ghost use Rattle.osh.specs.Pieces.{IsCut, SpellsSchema};
 ghost use Rattle.osh.specs.declared.flow.Path.{Path as Said};
 
 use crate::clash::clash;
-use crate::cut::opened;
-use ds_schema::{Field, Schema};
+use crate::cut::{is_equal, opened};
+use ds_schema::{Field, Schema, SchemaFault, print_schema, read_schema};
 use ds_value::{Kind, Name, NoMemory};
 use std::alloc::Global;
 
@@ -79,7 +79,16 @@ fn cut<'a>(text: &'a [u8]) -> Option<(&'a [u8], &'a [u8], &'a [u8])>
 fn built_schema(alloc: Global, text: &[u8]) -> Result<Option<Schema>, NoMemory>
     ensures { IfOk result (λ schema. MatchOption schema ((fields : List Column) → SpellsSchema text.now fields → ⊥) (SpellsSchema text.now)) }
 {
-    Err(NoMemory)
+    let schema = match read_schema(alloc, text) {
+        Ok(schema) => schema,
+        Err(SchemaFault::BadSchema { .. }) => return Ok(None),
+        Err(SchemaFault::Memory) => return Err(NoMemory),
+    };
+    let printed = print_schema(alloc, &schema)?;
+    if is_equal(printed.as_slice(), text) && are_built(schema.as_slice()) {
+        return Ok(Some(schema));
+    }
+    Ok(None)
 }
 
 /// The flow that the text spells.

@@ -6,7 +6,7 @@ ghost use Rattle.ds_text.specs.Records.{SpellsRow, SpellsNoRow, is_refused};
 ghost use Rattle.osh.specs.Meaning.{form, exported_text, export_faults};
 
 use ds_schema::{Row, Schema};
-use ds_text::RecordFault;
+use ds_text::{Form, RecordFault, read_record};
 use ds_value::{Bytes, NoMemory};
 use std::alloc::Global;
 
@@ -16,7 +16,7 @@ pub fn read_line(alloc: Global, schema: &Schema, line: &[u8]) -> Result<Row, Rec
     ensures fits { IfOk result (λ row. row_fits schema.now row ≡ true) }
     ensures bad { result ≡ Err RecordFault.Bad → SpellsNoRow form schema.now line.now }
 {
-    Err(RecordFault::Memory)
+    read_record(alloc, schema, &Form::Delimited(b','), line)
 }
 
 /// Puts a row behind the page, as a line.
@@ -25,5 +25,9 @@ pub fn write_line(alloc: Global, schema: &Schema, row: &Row, page: &mut Bytes) -
     ensures written { OnOk result (page.new ≡ page.old ++ exported_text schema.now row.now) }
     ensures writable { OnOk result (export_faults schema.now row.now ≡ []) }
 {
-    Err(NoMemory)
+    match ds_text::write_line(alloc, schema, &Form::Delimited(b','), row, page) {
+        Ok(()) => Ok(()),
+        // No line holds byte 10, and so no row that one spells does: only memory can be wanting.
+        Err(_) => Err(NoMemory),
+    }
 }
