@@ -1,6 +1,6 @@
 -- The text of a flow and its pieces, both ways.
 use Rattle.std.proofs.Common.{◌≡◌, ◌≢◌, ◌<◌, ℕ, Bool, true, false, List, [], ◌∷◌, ◌++◌, length, refl, sym, ◌∙◌, ap, subst, append_assoc, arith}
-use Rattle.std.specs.Prelude.{codes}
+use Rattle.std.specs.Prelude.{codes, Ok, Err}
 use Rattle.std.specs.List.{AllByRecursion, AllPass, list_all}
 use Rattle.std.specs.Cmp.{first_so, second_so}
 use Rattle.std.proofs.lemmas.List.Sums.{list_all-from_AllPass}
@@ -9,6 +9,9 @@ use Rattle.ds_value.specs.Names.{IsName, is_name_byte}
 use Rattle.ds_schema.specs.declared.schema.Field.{Field}
 use Rattle.ds_schema.specs.Schemas.{IsSchema}
 use Rattle.ds_schema.specs.SchemaText.{schema_text}
+use Rattle.ds_schema.specs.declared.schema_text.fault.SchemaFault.{SchemaFault}
+use Rattle.ds_schema.specs.SchemaReading.{schema_of}
+use Rattle.ds_schema.proofs.SchemaPrinted.{reads_back}
 use Rattle.osh.specs.declared.flow.Path.{Path}
 use Rattle.osh.specs.Clashes.{Clash}
 use Rattle.osh.specs.Flow.{IsFlow, path_text}
@@ -25,7 +28,7 @@ name_free (b ∷ bs) h = (differs b (first_so (is_name_byte b) (list_all is_name
 name_is_free : (bytes : List ℕ) → IsName bytes → AllByRecursion (λ b. b ≢ 34) bytes
 name_is_free bytes n = name_free bytes (list_all-from_AllPass is_name_byte bytes n.each)
 
-nested : (a s b f c t e : List ℕ) → (a ++ (s ++ (34 ∷ b ++ (f ++ (39 ∷ c ++ (t ++ 34 ∷ []))))) ) ++ e ≡ a ++ (s ++ 34 ∷ (b ++ (f ++ 39 ∷ (c ++ (t ++ 34 ∷ e)))))
+nested : (a s b f c t e : List ℕ) → (a ++ (s ++ (34 ∷ b ++ (f ++ (39 ∷ c ++ (t ++ 34 ∷ [])))))) ++ e ≡ a ++ (s ++ 34 ∷ (b ++ (f ++ 39 ∷ (c ++ (t ++ 34 ∷ e)))))
 nested a s b f c t e = simp append_assoc
 
 pub cut_of_flow : (text : List ℕ) (path : Path) → IsFlow text path → IsCut text path.source (schema_text path.schema) path.target
@@ -72,7 +75,9 @@ module _ (text s f t : List ℕ) (cut : IsCut text s f t) (path : Path) (flow : 
   schema_spelled = record { spelled = same.1; schema_is = flow.schema_is; built = flow.built }
 
 one_schema : (a b : List Field) → IsSchema a → IsSchema b → schema_text a ≡ schema_text b → a ≡ b
-one_schema a b p q e = ?
+one_schema a b p q e =
+    let same = sym (reads_back a p) ∙ ap schema_of e ∙ reads_back b q in
+    cc same
 
 -- a text spells one flow
 pub one_flow : (text : List ℕ) (p q : Path) → IsFlow text p → IsFlow text q → p ≡ q
@@ -80,3 +85,15 @@ one_flow text p q f g =
     let cut = same text p.source (schema_text p.schema) p.target (cut_of_flow text p f) q g in
     let schema = one_schema p.schema q.schema f.schema_is g.schema_is cut.1 in
     λ i. record { source = cut.0 i; schema = schema i; target = cut.2 i }
+
+-- a text that is read spells no other schema
+pub is_printed : (text : List ℕ) (read fields : List Field) → schema_of text ≡ Ok read → SpellsSchema text fields → (read ≡ fields) × (schema_text read ≡ text)
+is_printed text read fields e s =
+    let back = sym e ∙ ap schema_of s.spelled ∙ reads_back fields s.schema_is in
+    let same : read ≡ fields = cc back in
+    (same, ap schema_text same ∙ sym s.spelled)
+
+pub not_printed : (text : List ℕ) (fields : List Field) (fault : SchemaFault) → schema_of text ≡ Err fault → SpellsSchema text fields → ⊥
+not_printed text fields fault e s =
+    let back = sym e ∙ ap schema_of s.spelled ∙ reads_back fields s.schema_is in
+    absurd (cc back)

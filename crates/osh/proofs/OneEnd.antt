@@ -68,7 +68,7 @@ one_meaning fields bytes m k p q =
     let copied : m.copied ≡ k.copied = p.copied ∙ imported ∙ sym q.copied in
     let exported : m.exported ≡ k.exported = p.exported ∙ ap (flat_map (exported_text fields)) copied ∙ sym q.exported in
     let faults : m.faults ≡ k.faults = p.faults ∙ ap (λ is. flat_map item_faults is ++ (faults_behind (lines_of bytes).too_long ++ flat_map (export_faults fields) m.copied)) items
-        ∙ ap (λ rows. flat_map item_faults q.items ++ (faults_behind (lines_of bytes).too_long ++ flat_map (export_faults fields) rows)) copied ∙ sym q.faults in
+    ∙ ap (λ rows. flat_map item_faults q.items ++ (faults_behind (lines_of bytes).too_long ++ flat_map (export_faults fields) rows)) copied ∙ sym q.faults in
     λ i. record { imported = imported i; copied = copied i; exported = exported i; faults = faults i }
 
 one_finish : (target : List ℕ) (m : Meaning) (fs : List Fault) → IsOne (Finishes target m fs)

@@ -41,9 +41,12 @@ module _ (path : Path) (bytes held : List ℕ) (tally : Tally) (t : Transfers pa
 
   pub ends_done : tally.least ≡ None → RunsTo path bytes (done path.target held (report tally.rows tally.rows))
   ends_done none =
-      let empty : seen ≡ [] = no_first seen (sym t.least ∙ none) in
-      (meant, means, subst (λ fs. Finishes path.target meant fs (done path.target held (report tally.rows tally.rows))) (sym empty)
-      (λ i. done path.target (t.written i) (report (t.rows i) (t.rows i))))
+      let empty : seen ≡ [] = no_first seen (sym t.least ∙ none) in (
+        meant,
+        means,
+        subst (λ fs. Finishes path.target meant fs (done path.target held (report tally.rows tally.rows))) (sym empty)
+            (λ i. done path.target (t.written i) (report (t.rows i) (t.rows i))),
+      )
 
   finish_faulty : (fs : List Fault) (least : Fault) → seen ≡ fs → first_of fs ≡ Some least → Finishes path.target meant fs (faulty (fault_report (length fs) least))
   finish_faulty [] least is first = absurd (cc first)

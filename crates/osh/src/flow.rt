@@ -85,10 +85,13 @@ fn built_schema(alloc: Global, text: &[u8]) -> Result<Option<Schema>, NoMemory>
         Err(SchemaFault::Memory) => return Err(NoMemory),
     };
     let printed = print_schema(alloc, &schema)?;
-    if is_equal(printed.as_slice(), text) && are_built(schema.as_slice()) {
-        return Ok(Some(schema));
+    if !is_equal(printed.as_slice(), text) {
+        return Ok(None);
     }
-    Ok(None)
+    if !are_built(schema.as_slice()) {
+        return Ok(None);
+    }
+    Ok(Some(schema))
 }
 
 /// The flow that the text spells.

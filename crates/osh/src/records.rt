@@ -11,6 +11,7 @@ use ds_value::{Bytes, NoMemory};
 use std::alloc::Global;
 
 /// The row that a line spells.
+#[tactic(auto, using(crate::proofs::Rows::commas_fit))]
 pub fn read_line(alloc: Global, schema: &Schema, line: &[u8]) -> Result<Row, RecordFault>
     ensures found { IfOk result (λ row. SpellsRow form schema.now line.now row) }
     ensures fits { IfOk result (λ row. row_fits schema.now row ≡ true) }
@@ -20,7 +21,13 @@ pub fn read_line(alloc: Global, schema: &Schema, line: &[u8]) -> Result<Row, Rec
 }
 
 /// Puts a row behind the page, as a line.
-pub fn write_line(alloc: Global, schema: &Schema, row: &Row, page: &mut Bytes) -> Result<(), NoMemory>
+#[tactic(auto, using(crate::proofs::Rows::commas_fit, crate::proofs::Rows::written_text, crate::proofs::Rows::no_fault))]
+pub fn write_line(
+    alloc: Global,
+    schema: &Schema,
+    row: &Row,
+    page: &mut Bytes,
+) -> Result<(), NoMemory>
     requires { row_fits schema.now row.now ≡ true }
     ensures written { OnOk result (page.new ≡ page.old ++ exported_text schema.now row.now) }
     ensures writable { OnOk result (export_faults schema.now row.now ≡ []) }

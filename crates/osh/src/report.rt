@@ -16,7 +16,13 @@ fn op_line(alloc: Global, number: u32, name: &str) -> Result<String, AllocError>
     format!(in alloc; "op {number} {name} seq 1\n")
 }
 
-fn link_line(alloc: Global, number: u32, from: u32, to: u32, method: &str) -> Result<String, AllocError>
+fn link_line(
+    alloc: Global,
+    number: u32,
+    from: u32,
+    to: u32,
+    method: &str,
+) -> Result<String, AllocError>
     ensures { IfOk result (λ text. string_bytes text ≡ link_line number from to method.now) }
 {
     format!(in alloc; "link {number} {from}.0 {to}.0 {method}\n")

@@ -38,5 +38,4 @@ pub fn osh_still<F: Files, O: Sink, E: Sink>(
 /// A call comes to one end.
 pub fn one_end()
     ensures { OneEnd }
-{
-}
+{}

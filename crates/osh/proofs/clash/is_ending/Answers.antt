@@ -21,9 +21,10 @@ untrue : {N : Type 0} → (N → IsTrue false) → N → ⊥
 untrue f n = let e : false ≡ true = f n in cc
 
 pub returns-in-Some : goal.returns-in-Some
-returns-in-Some c =
-    (λ t. with_part c.args.ending.now c.in-Some.front.now c.in-Some.ensures.some (c.is_numbered-in-Some.ensures.0 t),
-      λ e. c.is_numbered-in-Some.ensures.1 (is_numbered_front c.args.ending.now c.in-Some.front.now (untrue c.if-is_numbered.ensures.1) c.in-Some.ensures.some e))
+returns-in-Some c = (
+  λ t. with_part c.args.ending.now c.in-Some.front.now c.in-Some.ensures.some (c.is_numbered-in-Some.ensures.0 t),
+  λ e. c.is_numbered-in-Some.ensures.1 (is_numbered_front c.args.ending.now c.in-Some.front.now (untrue c.if-is_numbered.ensures.1) c.in-Some.ensures.some e),
+)
 
 pub returns-in-None : goal.returns-in-None
 returns-in-None c = (λ t. absurd (untrue (λ (u : IsTrue false). u) t), λ e. absurd (is_not_parted c.args.ending.now (untrue c.if-is_numbered.ensures.1) c.in-None.ensures.none e))
