@@ -1,0 +1,12 @@
+pub mod Clashes
+pub mod Config
+pub mod Ends
+pub mod Flow
+pub mod Meaning
+pub mod Pieces
+pub mod Report
+pub mod Serves
+pub mod Stages
+pub mod Steps
+pub mod Transfers
+pub mod Words

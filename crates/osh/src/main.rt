@@ -1,0 +1,43 @@
+//! Runs flows of records.
+#![tactic(auto)]
+
+mod answer;
+mod clash;
+mod config;
+mod cut;
+mod flow;
+mod load;
+mod progress;
+mod records;
+mod report;
+mod run;
+mod say;
+mod serve;
+mod stages;
+mod still;
+mod tally;
+mod transfer;
+mod words;
+
+use ds_port::{DiskFiles, StdoutSink};
+use std::env;
+use std::process::ExitCode;
+use still::osh_still;
+
+fn main(rt: HostRuntime) -> ExitCode {
+    let alloc = rt.alloc();
+    let mut words = Vec::new(alloc);
+    // Words that aren't text are no command.
+    if let Ok(args) = env::args(&rt) {
+        for word in args.skip(1) {
+            if words.push(word).is_err() {
+                return ExitCode::from(12);
+            }
+        }
+    }
+    let mut out = StdoutSink::new(rt.stdout());
+    let mut err = StdoutSink::new(rt.stderr());
+    let mut files = DiskFiles::new(rt);
+    let status = osh_still(alloc, &words, &mut files, &mut out, &mut err);
+    ExitCode::from(status.0)
+}
