@@ -1,5 +1,5 @@
 -- The status of a call is that of its one end.
-use Rattle.std.proofs.Common.{◌≡◌, ◌⊎◌, inl, inr, ℕ, Bool, List, refl, sym, ap, ◌∙◌, subst}
+use Rattle.std.proofs.Common.{◌≡◌, ◌⊎◌, inl, inr, ℕ, Bool, List, refl, sym, ap, subst}
 use Rattle.ds_port.specs.FileMap.{FileMap}
 use Rattle.osh.specs.declared.answer.Answer.{Answer}
 use Rattle.osh.specs.declared.answer.Answer.TheVariants.{Done, Absent, Unbuilt, Faulty, Device, Memory}

@@ -1,7 +1,7 @@
 -- The text of a flow and its pieces, both ways.
-use Rattle.std.proofs.Common.{◌≡◌, ◌≢◌, ◌<◌, ℕ, Bool, true, false, List, [], ◌∷◌, ◌++◌, length, refl, sym, ◌∙◌, ap, subst, append_assoc, arith}
-use Rattle.std.specs.Prelude.{codes, Ok, Err}
-use Rattle.std.specs.List.{AllByRecursion, AllPass, list_all}
+use Rattle.std.proofs.Common.{◌≡◌, ◌≢◌, ℕ, true, List, [], ◌∷◌, ◌++◌, refl, sym, ◌∙◌, ap, subst, append_assoc, arith}
+use Rattle.std.specs.Prelude.{Ok, Err}
+use Rattle.std.specs.List.{AllByRecursion, list_all}
 use Rattle.std.specs.Cmp.{first_so, second_so}
 use Rattle.std.proofs.lemmas.List.Sums.{list_all-from_AllPass}
 use Rattle.std.proofs.lemmas.Bool.Decides.{nat_tests}
@@ -14,8 +14,8 @@ use Rattle.ds_schema.specs.SchemaReading.{schema_of}
 use Rattle.ds_schema.proofs.SchemaPrinted.{reads_back}
 use Rattle.osh.specs.declared.flow.Path.{Path}
 use Rattle.osh.specs.Clashes.{Clash}
-use Rattle.osh.specs.Flow.{IsFlow, path_text}
-use Rattle.osh.specs.Pieces.{Opens, IsCut, SpellsSchema}
+use Rattle.osh.specs.Flow.{IsFlow}
+use Rattle.osh.specs.Pieces.{IsCut, SpellsSchema}
 use Rattle.osh.proofs.Cuts.{before_source, before_schema, before_target, one_cut}
 use Rattle.osh.proofs.SchemaQuotes.{schema_is_free}
 

@@ -1,19 +1,18 @@
 -- A call comes to one end.
-use Rattle.std.proofs.Common.{◌≡◌, ◌⊎◌, inl, inr, ℕ, suc, List, [], ◌∷◌, ◌++◌, refl, sym, ap, ◌∙◌, subst, length}
-use Rattle.std.specs.Prelude.{Option, Some, None}
+use Rattle.std.proofs.Common.{◌≡◌, inl, inr, ℕ, suc, List, [], ◌∷◌, ◌++◌, refl, sym, ap, ◌∙◌, subst, length}
+use Rattle.std.specs.Prelude.{Option}
 use Rattle.std.specs.List.{flat_map}
 use Rattle.ds_port.specs.FileMap.{FileMap, file_at}
 use Rattle.ds_schema.specs.declared.schema.Field.{Field}
 use Rattle.ds_text.specs.Lines.{lines_of}
 use Rattle.op_base.specs.declared.fault.Fault.{Fault}
-use Rattle.osh.specs.declared.words.Command.{Command}
 use Rattle.osh.specs.declared.flow.Path.{Path}
 use Rattle.osh.specs.Steps.{Reads, Spelled, IsOne}
 use Rattle.osh.specs.Words.{IsRun}
 use Rattle.osh.specs.Flow.{IsFlow}
 use Rattle.osh.specs.Config.{IsConfig}
-use Rattle.osh.specs.Meaning.{Row, Item, good, bad, form, IsItem, AreItems, Meaning, Means, IsLeast, item_rows, item_faults, faults_behind, exported_text, export_faults}
-use Rattle.osh.specs.Ends.{End, unbuilt, absent, done, faulty, Finishes, RunsTo, ComesTo}
+use Rattle.osh.specs.Meaning.{good, bad, IsItem, AreItems, Meaning, Means, item_rows, item_faults, faults_behind, exported_text, export_faults}
+use Rattle.osh.specs.Ends.{unbuilt, absent, faulty, Finishes, RunsTo, ComesTo}
 use Rattle.osh.specs.Report.{fault_report}
 use Rattle.osh.proofs.Flows.{one_flow}
 use Rattle.osh.proofs.FaultOrder.{one_least}

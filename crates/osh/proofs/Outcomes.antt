@@ -1,18 +1,18 @@
 -- What the tally of all lines says of the meaning.
-use Rattle.std.proofs.Common.{◌≡◌, ◌⊎◌, inl, inr, ℕ, Bool, List, [], ◌∷◌, ◌++◌, length, refl, sym, ap, subst, ◌∙◌}
-use Rattle.std.specs.Prelude.{Option, Some, None}
+use Rattle.std.proofs.Common.{◌≡◌, inl, inr, ℕ, Bool, List, [], ◌∷◌, ◌++◌, length, refl, sym, ap, subst, ◌∙◌}
+use Rattle.std.specs.Prelude.{Some, None}
 use Rattle.std.specs.List.{flat_map}
 use Rattle.std.proofs.lemmas.List.{append-nil}
-use Rattle.ds_port.specs.FileMap.{FileMap, file_at}
+use Rattle.ds_port.specs.FileMap.{FileMap}
 use Rattle.ds_text.specs.Lines.{lines_of}
 use Rattle.op_base.specs.declared.fault.Fault.{Fault}
 use Rattle.osh.specs.declared.flow.Path.{Path}
 use Rattle.osh.specs.declared.tally.Tally.{Tally}
 use Rattle.osh.specs.declared.answer.Answer.{Answer}
 use Rattle.osh.specs.declared.answer.Answer.TheVariants.{Done, Absent, Unbuilt, Faulty, Device, Memory}
-use Rattle.osh.specs.Meaning.{Meaning, Means, IsLeast, item_rows, item_faults, faults_behind, exported_text, export_faults}
+use Rattle.osh.specs.Meaning.{Meaning, Means, item_rows, item_faults, faults_behind, exported_text, export_faults}
 use Rattle.osh.specs.Report.{report, fault_report}
-use Rattle.osh.specs.Ends.{End, Finishes, RunsTo, done, faulty}
+use Rattle.osh.specs.Ends.{Finishes, RunsTo, done, faulty}
 use Rattle.osh.specs.Transfers.{Transfers, first_of}
 use Rattle.osh.specs.Stages.{EndsIn, Ran, Delivers, Refuses}
 use Rattle.osh.proofs.Least.{first_is_least}

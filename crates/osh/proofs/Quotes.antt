@@ -1,8 +1,8 @@
 -- Words up to a quote.
-use Rattle.std.proofs.Common.{◌≡◌, ◌≢◌, ℕ, List, [], ◌∷◌, ◌++◌, refl, sym, ◌∙◌, subst}
+use Rattle.std.proofs.Common.{◌≡◌, ◌≢◌, ℕ, List, [], ◌∷◌, ◌++◌, refl, sym, ◌∙◌}
 use Rattle.std.specs.List.{AllByRecursion}
 use Rattle.std.proofs.lemmas.List.{append_cancel_left}
-use Rattle.osh.specs.Pieces.{Opens, IsCut}
+use Rattle.osh.specs.Pieces.{Opens}
 
 abbrev pub Free : ℕ → List ℕ → Type 0
 Free q word = AllByRecursion (λ b. b ≢ q) word

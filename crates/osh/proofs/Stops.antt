@@ -1,5 +1,5 @@
 -- Where a call stops, and where it goes on.
-use Rattle.std.proofs.Common.{◌≡◌, ◌⊎◌, inl, inr, ℕ, Bool, List, refl, sym, ap, ◌∙◌}
+use Rattle.std.proofs.Common.{inl, inr, ℕ, Bool, List, refl, ap}
 use Rattle.ds_port.specs.FileMap.{FileMap}
 use Rattle.osh.specs.declared.words.Command.{Command}
 use Rattle.osh.specs.declared.flow.Path.{Path}

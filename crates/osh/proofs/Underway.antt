@@ -1,15 +1,14 @@
 -- Lines that are taken one after another, and the rows and faults so far.
-use Rattle.std.proofs.Common.{◌≡◌, ◌≤◌, ◌<◌, ◌+◌, ◌-◌, ◌^◌, ℕ, zero, suc, Bool, true, false, List, [], ◌∷◌, ◌++◌, length, refl, sym, ap, ◌∙◌, subst, append_assoc, length-append, arith, add-suc}
-use Rattle.std.specs.Prelude.{min, Option, Some, None}
+use Rattle.std.proofs.Common.{◌≡◌, ◌≤◌, ◌+◌, ◌^◌, ℕ, suc, Bool, true, false, List, [], ◌∷◌, ◌++◌, length, refl, sym, ap, ◌∙◌, subst, append_assoc, length-append, arith}
+use Rattle.std.specs.Prelude.{None}
 use Rattle.std.specs.List.{flat_map}
 use Rattle.std.proofs.lemmas.Grind.{flat_map-append}
 use Rattle.std.proofs.lemmas.List.{append-nil}
 use Rattle.ds_schema.specs.declared.schema.Field.{Field}
 use Rattle.ds_text.specs.Lines.{Reading}
-use Rattle.ds_text.specs.Readers.{first}
 use Rattle.op_base.specs.declared.fault.Fault.{Fault}
 use Rattle.osh.specs.Meaning.{Item, good, bad, AreItems, IsItem, item_rows, item_faults, faults_behind, file_too_long, exported_text, export_faults}
-use Rattle.osh.specs.Transfers.{first_of, more, or_this, with_item, with_end, with_fault, Takes, Steps, Ends, Transfers, AreFew}
+use Rattle.osh.specs.Transfers.{first_of, more, or_this, with_item, with_end, Steps, Ends, Transfers, AreFew}
 use Rattle.osh.specs.declared.tally.Tally.{Tally}
 use Rattle.osh.specs.declared.progress.Progress.{Progress}
 

@@ -1,5 +1,4 @@
-use Rattle.std.proofs.Common.{◌≡◌, List, ℕ, true, false, refl}
-use Rattle.osh.specs.Pieces.{IsCut}
+use Rattle.std.proofs.Common.{◌≡◌, true, false, refl}
 use Rattle.osh.proofs.Cuts.{no_schema, no_target, pieces_are}
 use Rattle.osh.proofs.flow.cut.Goals as goal
 

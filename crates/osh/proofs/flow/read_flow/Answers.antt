@@ -1,11 +1,9 @@
-use Rattle.std.proofs.Common.{◌≡◌, List, ℕ, sym, subst, true, false}
+use Rattle.std.proofs.Common.{◌≡◌, List, sym, subst, true, false}
 use Rattle.std.specs.Option.{SomeIff, MatchOption}
 use Rattle.ds_value.specs.Names.{IsName}
 use Rattle.ds_schema.specs.declared.schema.Field.{Field}
 use Rattle.ds_schema.specs.SchemaText.{schema_text}
-use Rattle.osh.specs.declared.flow.Path.{Path}
 use Rattle.osh.specs.Clashes.{Clash}
-use Rattle.osh.specs.Flow.{IsFlow}
 use Rattle.osh.specs.Pieces.{IsCut, SpellsSchema}
 use Rattle.osh.proofs.Flows.{cut_of_flow, flow_of_cut, source_named, target_named, names_apart, schema_spelled}
 use Rattle.osh.proofs.flow.read_flow.Goals as goal

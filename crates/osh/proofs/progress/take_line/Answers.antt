@@ -1,8 +1,8 @@
-use Rattle.std.proofs.Common.{◌≡◌, ◌∙◌, ◌++◌, [], List, ℕ, refl, sym, ap}
+use Rattle.std.proofs.Common.{◌∙◌, ◌++◌, [], refl, sym, ap}
 use Rattle.std.proofs.lemmas.List.{append-nil}
 use Rattle.std.specs.Prelude.{Err}
 use Rattle.ds_text.specs.declared.fault.RecordFault.{RecordFault}
-use Rattle.osh.specs.Meaning.{good, bad, exported_text, export_faults}
+use Rattle.osh.specs.Meaning.{good, bad, exported_text}
 use Rattle.osh.proofs.progress.take_line.Goals as goal
 
 pub returns-in_ok-write_line-in-Ok : goal.returns-in_ok-write_line-in-Ok

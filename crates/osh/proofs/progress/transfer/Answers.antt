@@ -1,6 +1,5 @@
-use Rattle.std.proofs.Common.{◌≡◌, ◌∙◌, ◌≤◌, ◌++◌, Ok, Bool, sym, ap, arith}
+use Rattle.std.proofs.Common.{◌∙◌, ◌++◌, Ok, Bool, ap, arith}
 use Rattle.ds_text.specs.Readers.{remaining}
-use Rattle.osh.specs.Transfers.{AreFew}
 use Rattle.osh.proofs.Underway.{stepped, turned, ended}
 use Rattle.osh.proofs.progress.transfer.Goals as goal
 

@@ -1,5 +1,5 @@
-use Rattle.std.proofs.Common.{◌≡◌, sym, subst}
-use Rattle.ds_text.specs.Lines.{Reading, lines_of}
+use Rattle.std.proofs.Common.{sym, subst}
+use Rattle.ds_text.specs.Lines.{Reading}
 use Rattle.osh.specs.Transfers.{Transfers, AreFew}
 use Rattle.osh.proofs.FewLines.{few_lines}
 use Rattle.osh.proofs.run.carry.Goals as goal

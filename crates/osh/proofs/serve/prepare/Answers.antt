@@ -1,4 +1,4 @@
-use Rattle.std.proofs.Common.{◌≡◌, List, ℕ, map, string_bytes, subst}
+use Rattle.std.proofs.Common.{map, string_bytes, subst}
 use Rattle.std.specs.Option.{MatchOption}
 use Rattle.osh.specs.declared.words.Command.{Command}
 use Rattle.osh.specs.Words.{IsRun}

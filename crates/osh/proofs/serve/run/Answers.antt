@@ -1,4 +1,4 @@
-use Rattle.std.proofs.Common.{◌≡◌, ◌∙◌, List, ℕ, inr, sym, ap, subst}
+use Rattle.std.proofs.Common.{◌∙◌, inr, subst}
 use Rattle.ds_text.specs.Lines.{lines_of}
 use Rattle.osh.specs.Ends.{done, faulty}
 use Rattle.osh.specs.Report.{report, fault_report}

@@ -1,4 +1,4 @@
-use Rattle.std.proofs.Common.{◌≡◌, List, ℕ, map, string_bytes, subst}
+use Rattle.std.proofs.Common.{map, string_bytes, subst}
 use Rattle.osh.specs.Stages.{Ran}
 use Rattle.osh.proofs.Stops.{served}
 use Rattle.osh.proofs.serve.serve.Goals as goal

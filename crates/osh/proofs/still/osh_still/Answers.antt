@@ -1,4 +1,4 @@
-use Rattle.std.proofs.Common.{◌≡◌, List, ℕ, map, string_bytes, sym, subst, rules}
+use Rattle.std.proofs.Common.{map, string_bytes, sym, subst, rules}
 use Rattle.osh.specs.Serves.{IsExact}
 use Rattle.osh.proofs.Exact.{exact_said, complete}
 use Rattle.osh.proofs.still.osh_still.Goals as goal
