@@ -10,10 +10,10 @@ ghost use Rattle.osh_table.specs.Kinds.{kind_of};
 ghost use Rattle.osh_read.specs.Options.{is_opt, is_value, options_ahead, ends_ahead, has_word, is_met, is_needy, is_missing, operator_of, kind_or, head_at, settings_at};
 
 use crate::setting::{is_opt, is_value, settings};
-use ds_lex::{Cursor, Lexeme, Sort, Stop};
+use ds_lex::{Lexeme, Sort, Stop};
 use ds_value::NoMemory;
 use flow_graph::OpKind;
-use osh_table::{
+use osh_table::{Cursor, 
     OpName, OptionRow, OshWhy, Setting, kind_of, number_of, operator_named, option_word, refuse,
     rows,
 };

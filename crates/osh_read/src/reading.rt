@@ -13,10 +13,10 @@ use crate::fault::OshFault;
 use crate::links::{links, mentions, named_outputs, unjoined};
 use crate::stage::Stage;
 use crate::stages::stages;
-use ds_lex::{Cursor, End, Lexeme, LimitedText, Mode, Refusal, Stop, lex_limited};
+use ds_lex::{End, Lexeme, LimitedText, Mode, Refusal, Stop, lex_limited};
 use ds_value::{Copied, Items, NoMemory};
 use flow_graph::{Flow, OpSpec};
-use osh_table::OshWhy;
+use osh_table::{Cursor, OshWhy};
 use std::alloc::Global;
 
 #[tactic(auto, unfolding(crate::specs::Flows::ended_at))]

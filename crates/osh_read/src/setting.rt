@@ -9,9 +9,9 @@ ghost use Rattle.osh_table.specs.Table.{row_named};
 ghost use Rattle.osh_table.specs.Values.{value_of, content_of};
 ghost use Rattle.osh_read.specs.Options.{is_flag, is_opt, is_value, value_comes, is_cut, has_group, clashes, known, lacks_value, given, value_at, taken, taken_at, setting_at, opt_at, behind_opt, settings_at};
 
-use ds_lex::{Cursor, Lexeme, Refusal, Sort, Stop};
+use ds_lex::{Lexeme, Refusal, Sort, Stop};
 use ds_value::{Items, NoMemory};
-use osh_table::{
+use osh_table::{Cursor, 
     Form, OpName, OptionRow, OptionValue, OshWhy, Setting, content_of, refuse, row_named, value_of,
 };
 use std::alloc::Global;

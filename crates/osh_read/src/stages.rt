@@ -12,10 +12,10 @@ ghost use Rattle.osh_read.specs.Stages.{is_single, is_stored, plain_mark, is_par
 
 use crate::head::head;
 use crate::stage::{Joint, Redirect, Stage, Way};
-use ds_lex::{Cursor, Lexeme, Refusal, Sort, Stop};
+use ds_lex::{Lexeme, Refusal, Sort, Stop};
 use ds_value::{Bytes, Items};
 use flow_graph::Mark;
-use osh_table::{OpName, OshWhy, method, refuse};
+use osh_table::{Cursor, OpName, OshWhy, method, refuse};
 use std::alloc::Global;
 
 /// Whether the operator is always sequential.

@@ -4,8 +4,8 @@ use Rattle.std.specs.Option.{option_map}
 use Rattle.ds_schema.specs.declared.schema.Field.{Field}
 use Rattle.flow_graph.specs.declared.op_kind.AggSpec.{AggSpec}
 use Rattle.flow_graph.specs.declared.op_kind.AggSpec.TheVariants as agg
-use Rattle.flow_graph.specs.declared.op_kind.Missing.{Missing}
-use Rattle.flow_graph.specs.declared.op_kind.Missing.TheVariants as missing
+use Rattle.op_base.specs.declared.missing.Missing.{Missing}
+use Rattle.op_base.specs.declared.missing.Missing.TheVariants as missing
 use Rattle.flow_graph.specs.declared.op_kind.OpKind.{OpKind}
 use Rattle.flow_graph.specs.declared.op_kind.OpKind.TheVariants as kind
 use Rattle.osh_table.specs.declared.table.OpName.{OpName}

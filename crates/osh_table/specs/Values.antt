@@ -7,8 +7,8 @@ use Rattle.ds_lex.specs.declared.token.Sort.TheVariants as sort
 use Rattle.ds_schema.specs.declared.schema.Field.{Field}
 use Rattle.ds_schema.specs.declared.schema_text.fault.SchemaFault.{SchemaFault}
 use Rattle.ds_schema.specs.SchemaReading.{schema_of}
-use Rattle.flow_graph.specs.declared.op_kind.Missing.{Missing}
-use Rattle.flow_graph.specs.declared.op_kind.Missing.TheVariants as missing
+use Rattle.op_base.specs.declared.missing.Missing.{Missing}
+use Rattle.op_base.specs.declared.missing.Missing.TheVariants as missing
 use Rattle.osh_table.specs.declared.table.Form.{Form}
 use Rattle.osh_table.specs.declared.table.Form.TheVariants as form
 use Rattle.osh_table.specs.declared.value.OptionValue.{OptionValue}

@@ -7,8 +7,8 @@ ghost use Rattle.ds_lex.specs.Lexemes.{lexeme};
 ghost use Rattle.ds_lex.specs.Reading.{Gives, Moves};
 ghost use Rattle.osh_table.specs.Reading.{is_name, named, fresh_named, name_at, has_name, fresh_name_at, names_at, has_key, key_at, keys_at};
 
-use crate::OshWhy;
-use ds_lex::{Cursor, Lexeme, Refusal, Sort, Stop};
+use crate::{Cursor, OshWhy};
+use ds_lex::{Lexeme, Refusal, Sort, Stop};
 use ds_value::{Items, Name, NoMemory};
 use std::alloc::Global;
 

@@ -10,7 +10,8 @@ use crate::table::{OpName, OptName, option_number};
 use crate::value::OptionValue;
 use ds_schema::Schema;
 use ds_value::{Copied, Items, Name, NoMemory};
-use flow_graph::{AggSpec, Missing, OpKind};
+use flow_graph::{AggSpec, OpKind};
+use op_base::Missing;
 use std::alloc::Global;
 
 /// An option with its value, and the group of its row.

@@ -1,6 +1,7 @@
 //! The options of operators: their table, the forms of their values, and the operators that they make.
 #![tactic(auto)]
 
+mod cursor;
 mod key_list;
 mod kinds;
 mod link_method;
@@ -9,6 +10,7 @@ mod value;
 mod whole_value;
 mod why;
 
+pub use cursor::Cursor;
 pub use key_list::{keys, name, names, refuse};
 pub use kinds::{Setting, kind_of};
 pub use link_method::method;

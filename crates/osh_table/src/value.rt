@@ -14,7 +14,7 @@ use crate::whole_value::{
 use ds_lex::Sort;
 use ds_schema::{Schema, SchemaFault, read_schema};
 use ds_value::{Items, Name, NoMemory};
-use flow_graph::Missing;
+use op_base::Missing;
 use std::alloc::Global;
 
 /// What an option's value says. Of a pair the new name is the first.

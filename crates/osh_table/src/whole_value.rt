@@ -1,7 +1,8 @@
 //! Values that are tokens.
 
-ghost use Rattle.std.specs.Prelude.{◌≡◌, ◌&&◌, length, IfOk, List, Result, Ok, Err, [], ◌++◌, ◌∷◌, codes};
-ghost use Rattle.std.specs.List.{list_any};
+ghost use Rattle.std.specs.Prelude.{◌≡◌, ◌&&◌, ◌<◌, ◌^◌, length, IfOk, List, Result, Ok, Err, Some, None, if◌then◌else◌, [], ◌++◌, ◌∷◌, codes};
+ghost use Rattle.std.specs.List.{list_all, list_any};
+ghost use Rattle.ds_lex.specs.Pieces.{begins_with, is_opt_byte, opens_word};
 ghost use Rattle.std.specs.Str.{bytes_eq};
 ghost use Rattle.std.specs.Str.Parse.{digits_value};
 ghost use Rattle.ds_lex.specs.declared.refusal.Refusal.{Refusal as Refused};
@@ -12,10 +13,9 @@ ghost use Rattle.ds_schema.specs.SchemaReading.{is_size, is_field_name};
 ghost use Rattle.osh_table.specs.Reading.{Read, names_at, keys_at, fresh_named};
 ghost use Rattle.osh_table.specs.ValueTokens.{only, only_unless, whole_value, all_keys_at, all_names_at, all_pairs_at, all_widths_at, new_named, new_name_at, has_old, pair_at, pairs_at, width_of, width_at, widths_at};
 
-use crate::OshWhy;
+use crate::{Cursor, OshWhy};
 use crate::key_list::{fresh_named, keys, named, names, refuse};
-use ds_lex::{Cursor, Lexeme, Mode, Refusal, Sort, Stop, lex};
-use ds_schema::{is_field_name, size_of};
+use ds_lex::{Lexeme, Mode, Refusal, Sort, Stop, is_digit, is_opt_byte, lex, opens_word};
 use ds_value::{Items, Name, NoMemory};
 use std::alloc::Global;
 
@@ -34,6 +34,48 @@ fn only<T: Drop>(read: Result<T, Stop<OshWhy>>, cursor: &Cursor<'_>) -> Result<O
         Err(Stop::Refused(_)) => Ok(None),
         Err(Stop::Memory) => Err(NoMemory),
     }
+}
+
+fn begins_as_word(bytes: &[u8]) -> bool
+    ensures { result ≡ begins_with opens_word bytes.now }
+{
+    match bytes {
+        [] => false,
+        [byte, ..] => opens_word(*byte),
+    }
+}
+
+fn are_name_bytes(bytes: &[u8]) -> bool
+    ensures { result ≡ list_all is_opt_byte bytes.now }
+{
+    bytes.iter().all(|byte| is_opt_byte(*byte))
+}
+
+fn is_field_name(bytes: &[u8]) -> bool
+    ensures { result ≡ is_field_name bytes.now }
+{
+    bytes.len() <= 64 && begins_as_word(bytes) && are_name_bytes(bytes)
+}
+
+/// A number from low to high, in digits alone.
+fn size_of(low: u32, high: u32, bytes: &[u8]) -> Option<u32>
+    requires { high < 2 ^ 24 }
+    ensures { result ≡ (if is_size low high bytes.now then Some (digits_value 10 bytes.now) else None) }
+{
+    let mut value: u32 = 0;
+    for byte in bytes {
+        if !is_digit(*byte) {
+            return None;
+        }
+        value = value * 10 + u32::from(*byte - b'0');
+        if high < value {
+            return None;
+        }
+    }
+    if bytes.is_empty() || value < low {
+        return None;
+    }
+    Some(value)
 }
 
 /// The name of a new column.
