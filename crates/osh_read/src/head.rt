@@ -13,9 +13,9 @@ use crate::setting::{is_opt, is_value, settings};
 use ds_lex::{Lexeme, Sort, Stop};
 use ds_value::NoMemory;
 use flow_graph::OpKind;
-use osh_table::{Cursor, 
-    OpName, OptionRow, OshWhy, Setting, kind_of, number_of, operator_named, option_word, refuse,
-    rows,
+use osh_table::{
+    Cursor, OpName, OptionRow, OshWhy, Setting, kind_of, number_of, operator_named, option_word,
+    refuse, rows,
 };
 use std::alloc::Global;
 

@@ -11,8 +11,9 @@ ghost use Rattle.osh_read.specs.Options.{is_flag, is_opt, is_value, value_comes,
 
 use ds_lex::{Lexeme, Refusal, Sort, Stop};
 use ds_value::{Items, NoMemory};
-use osh_table::{Cursor, 
-    Form, OpName, OptionRow, OptionValue, OshWhy, Setting, content_of, refuse, row_named, value_of,
+use osh_table::{
+    Cursor, Form, OpName, OptionRow, OptionValue, OshWhy, Setting, content_of, refuse, row_named,
+    value_of,
 };
 use std::alloc::Global;
 

@@ -7,8 +7,8 @@ ghost use Rattle.ds_lex.specs.Lexemes.{lexeme};
 ghost use Rattle.ds_lex.specs.Reading.{Moves, first_of, accept_at, expect_at, sort_at, token_at};
 ghost use Rattle.osh_table.specs.Reading.{flag_named, method_named, plain_method, hash_at, modulus_at, merge_at, kind_at, flag_at, closed_at, behind_at, inside_at, method_at, name_at, names_at, keys_at};
 
-use crate::{Cursor, OshWhy};
 use crate::key_list::{keys, name, names, refuse};
+use crate::{Cursor, OshWhy};
 use ds_lex::{Lexeme, Sort, Stop};
 use flow_graph::{Flag, Method};
 use std::alloc::Global;

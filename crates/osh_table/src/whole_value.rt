@@ -13,8 +13,8 @@ ghost use Rattle.ds_schema.specs.SchemaReading.{is_size, is_field_name};
 ghost use Rattle.osh_table.specs.Reading.{Read, names_at, keys_at, fresh_named};
 ghost use Rattle.osh_table.specs.ValueTokens.{only, only_unless, whole_value, all_keys_at, all_names_at, all_pairs_at, all_widths_at, new_named, new_name_at, has_old, pair_at, pairs_at, width_of, width_at, widths_at};
 
-use crate::{Cursor, OshWhy};
 use crate::key_list::{fresh_named, keys, named, names, refuse};
+use crate::{Cursor, OshWhy};
 use ds_lex::{Lexeme, Mode, Refusal, Sort, Stop, is_digit, is_opt_byte, lex, opens_word};
 use ds_value::{Items, Name, NoMemory};
 use std::alloc::Global;
