@@ -29,9 +29,10 @@ abbrev pub place_number : Place → List Value → ℕ → ℕ
 place_number (Hash K) r n = hash_number n (val K r)
 place_number (Modulus c) r n = modulus_number n (val (c ∷ []) r)
 
-abbrev pub place_columns : Place → List ℕ
-place_columns (Hash K) = K
-place_columns (Modulus c) = c ∷ []
+-- the columns in which a place looks
+abbrev pub columns_read : Place → List ℕ
+columns_read (Hash K) = K
+columns_read (Modulus c) = c ∷ []
 
 -- a whole number, or null
 abbrev pub IsWhole : Value → Type 0

@@ -3,7 +3,7 @@ ghost use Rattle.std.specs.Int.{int_rem_euclid};
 ghost use Rattle.ds_value.specs.Canonical.{IsShort};
 ghost use Rattle.ds_value.specs.Values.{number};
 ghost use Rattle.ds_schema.specs.Rows.{InWidth};
-ghost use Rattle.ds_place.specs.Places.{place_number, place_columns, IsWhole, HoldsWhole};
+ghost use Rattle.ds_place.specs.Places.{place_number, columns_read, IsWhole, HoldsWhole};
 
 use crate::hash::hash_of;
 use ds_schema::Row;
@@ -41,7 +41,7 @@ fn remainder(value: &Value, n: u32) -> u32
 
 /// The partition, of `n`, in which the place puts the row.
 pub fn partition_of(place: &Place, row: &Row, n: u32) -> u32
-    requires columns { All (InWidth row.now) (place_columns place.now) }
+    requires columns { All (InWidth row.now) (columns_read place.now) }
     requires whole { HoldsWhole place.now row.now }
     requires short { All IsShort row.now }
     requires some { 1 ≤ n }
