@@ -12,7 +12,8 @@ pub use order::row_order_is_total;
 pub use row::{Row, copy_row, project};
 pub use schema::{Field, Schema, row_fits};
 pub use schema_text::{
-    SchemaFault, SchemaWhy, laws, parse_field, parse_kind, parse_schema, print_schema, read_schema,
+    SchemaFault, SchemaWhy, is_field_name, laws, parse_field, parse_kind, parse_schema,
+    print_schema, read_schema, size_of,
 };
 
 #[cfg(test)]
