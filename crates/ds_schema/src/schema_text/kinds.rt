@@ -31,7 +31,7 @@ pub fn size_of(low: u32, high: u32, bytes: &[u8]) -> Option<u32>
     Some(value)
 }
 
-pub fn refuse(token: Lexeme<'_>, why: SchemaWhy) -> Refusal<SchemaWhy>
+pub fn refuse<W>(token: Lexeme<'_>, why: W) -> Refusal<W>
     ensures { result ≡ Refusal.At token.entry.at why }
 {
     Refusal::At { at: token.at, why }
