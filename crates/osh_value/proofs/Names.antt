@@ -6,7 +6,7 @@ use Rattle.std.specs.Option.{SomeIff}
 use Rattle.std.proofs.lemmas.List.Sums.{AllPass-from_list_all, list_all-from_AllPass}
 use Rattle.std.proofs.lemmas.Bool.{leb-true, le-leb, and_parts, and_from, false_from_ne_true}
 use Rattle.ds_value.specs.Names.{IsName, is_name_byte}
-use Rattle.osh_value.specs.Values.{is_name}
+use Rattle.ds_schema.specs.ColumnReading.{is_name}
 
 pub name_tested : (bytes : List ℕ) → IsName bytes → is_name bytes ≡ true
 name_tested bytes n = and_from _ _ (le-leb _ _ n.some) (and_from _ _ (le-leb _ _ n.short) (list_all-from_AllPass is_name_byte bytes n.each))

@@ -1,12 +1,11 @@
 -- What the value of an option says, by its form.
 use Rattle.std.specs.Prelude.{◌≡◌, ℕ, zero, suc, ◌-◌, List, [], ◌∷◌, ◌++◌, length, drop, take, Result, Ok, Err, Option, Some, None, Bool, true, false, not, ◌&&◌, ◌||◌, nat_le, ◌==◌, if◌then◌else◌, codes}
-use Rattle.std.specs.List.{list_all, list_any}
+use Rattle.std.specs.List.{list_any}
 use Rattle.std.specs.Option.{option_map}
 use Rattle.std.specs.Str.{bytes_eq}
 use Rattle.std.specs.Str.Parse.{digits_value}
 use Rattle.op_base.specs.declared.missing.Missing.{Missing}
 use Rattle.op_base.specs.declared.missing.Missing.TheVariants as missing
-use Rattle.ds_value.specs.Names.{is_name_byte}
 use Rattle.ds_lex.specs.declared.token.Mode.TheVariants.{Inner}
 use Rattle.ds_lex.specs.declared.token.Sort.{Sort}
 use Rattle.ds_lex.specs.declared.token.Sort.TheVariants as sort
@@ -16,6 +15,7 @@ use Rattle.ds_lex.specs.Lexemes.{Lexeme, LexedText, lexed_text}
 use Rattle.ds_lex.specs.Reading.{◌>>=◌, refuse, sort_at, expect_at, accept_at, finish_at}
 use Rattle.ds_schema.specs.declared.schema.Field.{Field}
 use Rattle.ds_schema.specs.declared.schema_text.fault.SchemaFault.{SchemaFault}
+use Rattle.ds_schema.specs.ColumnReading.{is_name, held, names_at, keys_at}
 use Rattle.ds_schema.specs.SchemaReading.{schema_of, is_field_name, is_size}
 use Rattle.flow_graph.specs.declared.op_kind.AggSpec.{AggSpec}
 use Rattle.flow_graph.specs.declared.op_kind.AggSpec.TheVariants as agg
@@ -37,9 +37,6 @@ abbrev pub content_of : Lexeme → List ℕ
 content_of t = content_by t.sort t.bytes
 
 -- ---- values that are taken as bytes
-
-abbrev pub is_name : List ℕ → Bool
-is_name bytes = nat_le 1 (length bytes) && (nat_le (length bytes) 255 && list_all is_name_byte bytes)
 
 abbrev pub file_value : List ℕ → Option OptValue
 file_value bytes = if is_name bytes then Some (value.Name bytes) else None
@@ -71,16 +68,12 @@ missing_named word =
 abbrev pub Inside : Type 0 → Type 0
 Inside A = Result (A × List Lexeme) (Refusal (Unit {0}))
 
--- the token as a name
-abbrev pub named : {W : Type 0} → W → Lexeme → Result (List ℕ) (Refusal W)
-named why t = if is_name t.bytes then Ok t.bytes else refuse t why
-
 -- a name that a new column may have
 unfoldable pub new_name_at : List Lexeme → Inside (List ℕ)
 new_name_at ts = do
   w ← sort_at sort.Word tt ts
   new ← if is_field_name w.0.bytes then Ok w.0 else refuse w.0 tt
-  name ← named tt w.0
+  name ← held tt w.0
   Ok (name, w.1)
 
 abbrev pub has_old : List (List ℕ × List ℕ) → List ℕ → Bool
@@ -93,7 +86,7 @@ rename_at found ts = do
   is ← expect_at (codes "=") tt new.1
   w ← sort_at sort.Word tt is.1
   alone ← if has_old found w.0.bytes then refuse w.0 tt else Ok w.0
-  old ← named tt w.0
+  old ← held tt w.0
   Ok ((new.0, old), w.1)
 
 -- One or more, with commas between them, behind those that were found; n is at least the number of tokens.
@@ -128,6 +121,8 @@ made_result f ts = rename_at [] ts >>= λ p. Ok (value.Result (result_of f p.0.0
 -- what the tokens at the front say, by the form
 abbrev pub said_at : Form → List Lexeme → Inside OptValue
 said_at form.Widths ts = widths_at ts >>= λ x. Ok (value.Widths x.0, x.1)
+said_at form.Columns ts = names_at tt ts >>= λ x. Ok (value.Columns x.0, x.1)
+said_at form.Keys ts = keys_at tt ts >>= λ x. Ok (value.Keys x.0, x.1)
 said_at form.Renames ts = renames_at ts >>= λ x. Ok (value.Renames x.0, x.1)
 said_at form.Count ts = new_name_at ts >>= λ x. Ok (value.Result (agg.Count x.0), x.1)
 said_at form.Sum ts = made_result form.Sum ts

@@ -4,7 +4,8 @@ ghost use Rattle.std.specs.Prelude.{◌≡◌, ◌∷◌, ◌++◌, [], Some, No
 ghost use Rattle.ds_lex.specs.Lexemes.{lexeme};
 ghost use Rattle.ds_lex.specs.Reading.{Gives};
 ghost use Rattle.ds_lex.specs.declared.refusal.Stop.TheVariants as stop;
-ghost use Rattle.osh_value.specs.Values.{content_of, is_name, named};
+ghost use Rattle.ds_schema.specs.ColumnReading.{held, is_name};
+ghost use Rattle.osh_value.specs.Values.{content_of};
 
 use ds_lex::{Lexeme, Refusal, Sort, Stop};
 use ds_value::{Items, Name, NoMemory};
@@ -39,7 +40,7 @@ pub fn name_of(alloc: Global, bytes: &[u8]) -> Result<Option<Name>, NoMemory>
 
 /// The token's bytes as a name; others are refused for this cause.
 pub fn owned_name<W: Copy>(alloc: Global, token: Lexeme<'_>, why: W) -> Result<Name, Stop<W>>
-    ensures { Gives result (named why (lexeme token.entry)) }
+    ensures { Gives result (held why (lexeme token.entry)) }
 {
     match name_of(alloc, token.bytes) {
         Ok(Some(name)) => Ok(name),

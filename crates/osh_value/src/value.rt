@@ -5,13 +5,13 @@ ghost use Rattle.std.specs.Option.{option_map};
 ghost use Rattle.ds_lex.specs.Lexemes.{lexemes};
 ghost use Rattle.ds_lex.specs.Reading.{Moves, Gives};
 ghost use Rattle.ds_schema.specs.SchemaReading.{schema_of};
-ghost use Rattle.osh_value.specs.Values.{data_set_value, delim_value, file_value, inside, is_name, missing_named, result_of, said_at, schema_value, value_of, whole_at};
+ghost use Rattle.osh_value.specs.Values.{data_set_value, delim_value, file_value, inside, missing_named, result_of, said_at, schema_value, value_of, whole_at};
 ghost use Rattle.osh_value.specs.declared.value.OptValue.TheVariants as value;
 
 use crate::lists::{new_name, pair, renames, widths};
 use crate::name::name_of;
 use ds_lex::{Cursor, LexedText, Lexeme, Mode, Refusal, Stop, lex};
-use ds_schema::{Schema, SchemaFault, read_schema};
+use ds_schema::{Schema, SchemaFault, parse_keys, parse_names, read_schema};
 use ds_value::{Items, Name, NoMemory};
 use flow_graph::AggSpec;
 use op_base::Missing;
@@ -119,6 +119,8 @@ fn said(alloc: Global, form: Form, cursor: &mut Cursor<'_>) -> Result<OptValue, 
 {
     match form {
         Form::Widths => Ok(OptValue::Widths(widths(alloc, cursor)?)),
+        Form::Columns => Ok(OptValue::Columns(parse_names(alloc, cursor, ())?)),
+        Form::Keys => Ok(OptValue::Keys(parse_keys(alloc, cursor, ())?)),
         Form::Renames => Ok(OptValue::Renames(renames(alloc, cursor)?)),
         Form::Count => Ok(OptValue::Result(AggSpec::Count(new_name(alloc, cursor)?))),
         Form::Sum | Form::Min | Form::Max | Form::First | Form::Last => {
