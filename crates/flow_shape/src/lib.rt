@@ -1,0 +1,16 @@
+//! The shape of a flow: the schema of each link, names turned to columns, and the order of the
+//! operators; or its first fault.
+#![tactic(auto)]
+
+mod cycle;
+mod fault;
+mod files;
+mod methods;
+mod naming;
+mod options;
+mod ports;
+mod sequence;
+mod widths;
+
+pub use sequence::{one_order, ordered_is_free};
+pub use fault::{ShapeFault, ShapeWhy};
