@@ -1,3 +1,4 @@
 pub mod Marks
 pub mod Orders
+pub mod Places
 pub mod Stuck

@@ -11,7 +11,7 @@ use Rattle.flow_graph.specs.declared.route.Route.TheVariants as route
 use Rattle.flow_shape.specs.declared.fault.ShapeWhy.{ShapeWhy}
 use Rattle.flow_shape.specs.declared.fault.ShapeWhy.TheVariants as why
 use Rattle.flow_shape.specs.Causes.{cause_if, first_cause}
-use Rattle.flow_shape.specs.Naming.{is_named, has_columns, column, columns, key_names, key_columns}
+use Rattle.flow_shape.specs.Naming.{is_named, has_column, has_columns, has_keys, column, columns, key_columns}
 
 -- whether a method may stand on a link into a sequential operator, or into a parallel one
 abbrev pub may_stand : Bool → Method → Bool
@@ -25,11 +25,12 @@ may_stand seq method.Any = seq
 may_stand seq method.Ordered = seq
 may_stand seq (method.Merge keys) = seq
 
-abbrev pub method_names : Method → List (List ℕ)
-method_names (method.Hash names) = names
-method_names (method.Modulus name) = name ∷ []
-method_names (method.Merge keys) = key_names keys
-method_names m = []
+-- whether a link has the columns that its method names
+abbrev pub all_named : List Field → Method → Bool
+all_named fields (method.Hash names) = has_columns fields names
+all_named fields (method.Modulus name) = has_column fields name
+all_named fields (method.Merge keys) = has_keys fields keys
+all_named fields m = true
 
 abbrev pub is_whole : Kind → Bool
 is_whole (kind.Int bits) = true
@@ -43,7 +44,7 @@ kinds_suit fields m = true
 
 -- what is wrong with the method of a link with this schema
 abbrev pub method_cause : Bool → List Field → Method → Option ShapeWhy
-method_cause seq fields m = first_cause (cause_if (not (may_stand seq m)) why.Method ∷ (cause_if (not (has_columns fields (method_names m))) why.Field ∷ (cause_if (not (kinds_suit fields m)) why.Kind ∷ [])))
+method_cause seq fields m = first_cause (cause_if (not (may_stand seq m)) why.Method ∷ (cause_if (not (all_named fields m)) why.Field ∷ (cause_if (not (kinds_suit fields m)) why.Kind ∷ [])))
 
 abbrev pub written_route : List Field → Method → Option Route
 written_route fields method.Auto = None

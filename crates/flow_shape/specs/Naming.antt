@@ -21,9 +21,9 @@ column fields name = position_or_len (is_named name) fields
 abbrev pub columns : List Field → List (List ℕ) → List ℕ
 columns fields names = map (column fields) names
 
--- the names of written keys, each with whether it descends
-abbrev pub key_names : List (List ℕ × Bool) → List (List ℕ)
-key_names keys = map (λ (k : List ℕ × Bool). k.0) keys
+-- written keys are names, each with whether it descends
+abbrev pub has_keys : List Field → List (List ℕ × Bool) → Bool
+has_keys fields keys = list_all (λ (k : List ℕ × Bool). has_column fields (k.0)) keys
 
 abbrev pub key_columns : List Field → List (List ℕ × Bool) → List Key
 key_columns fields keys = map (λ (k : List ℕ × Bool). record { col = column fields (k.0); desc = k.1 }) keys

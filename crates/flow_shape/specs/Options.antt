@@ -9,7 +9,7 @@ use Rattle.flow_graph.specs.declared.parts.OpParts.{OpParts}
 use Rattle.flow_shape.specs.declared.fault.ShapeWhy.{ShapeWhy}
 use Rattle.flow_shape.specs.declared.fault.ShapeWhy.TheVariants as why
 use Rattle.flow_shape.specs.Causes.{cause_if, first_cause}
-use Rattle.flow_shape.specs.Naming.{has_columns, key_names, key_columns}
+use Rattle.flow_shape.specs.Naming.{has_keys, key_columns}
 use Rattle.flow_shape.specs.Widths.{fields_cause}
 
 -- the operators whose options and outputs are defined here so far
@@ -33,7 +33,7 @@ abbrev pub widths_cause : Option (List ℕ) → List Field → Option ShapeWhy
 widths_cause widths fields = cause_if (not (widths_suit widths fields)) why.Schemas
 
 abbrev pub key_cause : List (List ℕ × Bool) → List Field → Option ShapeWhy
-key_cause key fields = cause_if (not (has_columns fields (key_names key))) why.Field
+key_cause key fields = cause_if (not (has_keys fields key)) why.Field
 
 -- at the options, in their order
 abbrev pub option_causes : OpKind → List (List Field) → List (Option ShapeWhy)

@@ -9,6 +9,7 @@ mod methods;
 mod naming;
 mod options;
 mod ports;
+mod reading;
 mod sequence;
 mod widths;
 
