@@ -1,6 +1,6 @@
 -- The names that a flow reads and writes, and which of them clash.
-use Rattle.std.specs.Prelude.{ℕ, ◌≡◌, ◌==◌, ◌<◌, Bool, true, false, ◌&&◌, ◌||◌, nat_lt, nat_le, List, [], ◌∷◌, length, drop, get_or, Option, Some, None, codes}
-use Rattle.std.specs.List.{prefix_len}
+use Rattle.std.specs.Prelude.{ℕ, ◌≡◌, ◌==◌, ◌<◌, Bool, true, false, ◌&&◌, ◌||◌, nat_lt, nat_le, List, [], ◌∷◌, length, take, drop, get_or, Option, Some, None, codes}
+use Rattle.std.specs.List.{take_while}
 use Rattle.std.specs.Str.{bytes_eq}
 use Rattle.flow_graph.specs.Charts.{no_op}
 use Rattle.flow_graph.specs.declared.flow.OpSpec.{OpSpec}
@@ -10,23 +10,30 @@ use Rattle.flow_graph.specs.declared.op_kind.OpKind.TheVariants as kind
 abbrev pub is_digit : ℕ → Bool
 is_digit b = nat_le 48 b && nat_le b 57
 
+abbrev pub is_empty : List ℕ → Bool
+is_empty bytes = length bytes == 0
+
+abbrev pub begins_dot : List ℕ → Bool
+begins_dot [] = false
+begins_dot (b ∷ bytes) = b == 46
+
 abbrev pub is_part : List ℕ → Bool
 is_part bytes = bytes_eq bytes (codes ".part")
 
--- digits, and `.part` or nothing behind them
+abbrev pub digits_len : List ℕ → ℕ
+digits_len bytes = length (take_while is_digit bytes)
+
+-- digits, and nothing or `.part` behind them
 abbrev pub is_number : List ℕ → Bool
-is_number bytes = nat_lt 0 (prefix_len is_digit bytes) && (bytes_eq (drop (prefix_len is_digit bytes) bytes) [] || is_part (drop (prefix_len is_digit bytes) bytes))
+is_number bytes = nat_lt 0 (digits_len bytes) && (is_empty (drop (digits_len bytes) bytes) || is_part (drop (digits_len bytes) bytes))
 
 -- what may be added to a name: `.part`, `.` with digits, or both
 abbrev pub is_ending : List ℕ → Bool
-is_ending [] = false
-is_ending (b ∷ bytes) = is_part (b ∷ bytes) || ((b == 46) && is_number bytes)
+is_ending bytes = is_part bytes || (begins_dot bytes && is_number (drop 1 bytes))
 
 -- whether the second name is the first with such an ending
 abbrev pub extends : List ℕ → List ℕ → Bool
-extends [] other = is_ending other
-extends (a ∷ name) [] = false
-extends (a ∷ name) (b ∷ other) = (a == b) && extends name other
+extends name other = bytes_eq (take (length name) other) name && is_ending (drop (length name) other)
 
 abbrev pub names_clash : List ℕ → List ℕ → Bool
 names_clash a b = bytes_eq a b || (extends a b || extends b a)

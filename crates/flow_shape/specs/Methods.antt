@@ -11,7 +11,7 @@ use Rattle.flow_graph.specs.declared.route.Route.TheVariants as route
 use Rattle.flow_shape.specs.declared.fault.ShapeWhy.{ShapeWhy}
 use Rattle.flow_shape.specs.declared.fault.ShapeWhy.TheVariants as why
 use Rattle.flow_shape.specs.Causes.{cause_if, first_cause}
-use Rattle.flow_shape.specs.Naming.{is_named, has_column, has_columns, has_keys, column, columns, key_columns}
+use Rattle.flow_shape.specs.Naming.{is_named, has_column, has_columns, has_keys, column, columns, key_columns, NamesDiffer}
 
 -- whether a method may stand on a link into a sequential operator, or into a parallel one
 abbrev pub may_stand : Bool → Method → Bool
@@ -37,9 +37,13 @@ is_whole (kind.Int bits) = true
 is_whole (kind.UInt bits) = true
 is_whole k = false
 
+-- no field of that name is of another kind
+abbrev pub is_whole_column : List Field → List ℕ → Bool
+is_whole_column fields name = list_all (λ (f : Field). not (is_named name f) || is_whole f.kind) fields
+
 -- a modulus column is of a whole kind
 abbrev pub kinds_suit : List Field → Method → Bool
-kinds_suit fields (method.Modulus name) = list_all (λ (f : Field). not (is_named name f) || is_whole f.kind) fields
+kinds_suit fields (method.Modulus name) = is_whole_column fields name
 kinds_suit fields m = true
 
 -- what is wrong with the method of a link with this schema
@@ -56,3 +60,8 @@ written_route fields (method.Modulus name) = Some (route.Modulus (column fields 
 written_route fields method.Any = Some route.Any
 written_route fields method.Ordered = Some route.Ordered
 written_route fields (method.Merge keys) = Some (route.Merge (key_columns fields keys))
+
+-- the keys that a method names differ
+abbrev pub MethodDiffers : Method → Type 0
+MethodDiffers (method.Merge keys) = NamesDiffer keys
+MethodDiffers m = Unit {0}

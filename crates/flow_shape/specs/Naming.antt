@@ -1,6 +1,6 @@
 -- Names of columns, and the columns that they name.
-use Rattle.std.specs.Prelude.{ℕ, Bool, List, [], ◌∷◌, map}
-use Rattle.std.specs.List.{list_any, list_all, position_or_len}
+use Rattle.std.specs.Prelude.{ℕ, ◌≡◌, Bool, List, [], ◌∷◌, map}
+use Rattle.std.specs.List.{list_any, list_all, position_or_len, AllByRecursion}
 use Rattle.std.specs.Str.{bytes_eq}
 use Rattle.ds_schema.specs.declared.schema.Field.{Field}
 use Rattle.ds_schema.specs.declared.key.Key.{Key}
@@ -27,3 +27,8 @@ has_keys fields keys = list_all (λ (k : List ℕ × Bool). has_column fields (k
 
 abbrev pub key_columns : List Field → List (List ℕ × Bool) → List Key
 key_columns fields keys = map (λ (k : List ℕ × Bool). record { col = column fields (k.0); desc = k.1 }) keys
+
+-- no two keys have one name
+abbrev pub NamesDiffer : List (List ℕ × Bool) → Type 0
+NamesDiffer [] = Unit {0}
+NamesDiffer (k ∷ keys) = AllByRecursion (λ (other : List ℕ × Bool). k.0 ≡ other.0 → ⊥) keys × NamesDiffer keys

@@ -1,8 +1,8 @@
-ghost use Rattle.std.specs.Prelude.{◌≡◌, ◌<◌, ◌≤◌, ◌^◌, length, position, IfOk, IfSome};
+ghost use Rattle.std.specs.Prelude.{◌≡◌, ◌<◌, ◌≤◌, ◌^◌, length, position, true, IfOk, IfSome};
 ghost use Rattle.std.specs.List.{position_or_len};
 ghost use Rattle.std.specs.Str.{bytes_eq};
 ghost use Rattle.ds_schema.specs.Rows.{KeysDiffer};
-ghost use Rattle.flow_shape.specs.Naming.{is_named, has_column, has_columns, has_keys, column, columns, key_columns};
+ghost use Rattle.flow_shape.specs.Naming.{is_named, has_column, has_columns, has_keys, column, columns, key_columns, NamesDiffer};
 
 use ds_schema::{Field, Key, KeyList};
 use ds_value::{Items, Name, NoMemory};
@@ -59,4 +59,25 @@ pub fn columns(alloc: Global, fields: &[Field], names: &[Name]) -> Result<Items<
         cols.push(column(fields, name))?;
     }
     Ok(cols)
+}
+
+/// A key list of the columns that the keys name.
+pub fn key_list(
+    alloc: Global,
+    fields: &[Field],
+    keys: &[(Name, bool)],
+) -> Result<KeyList, NoMemory>
+    requires few { length fields.now < 2 ^ 32 }
+    requires named { has_keys fields.now keys.now ≡ true }
+    requires differ { NamesDiffer keys.now }
+    ensures { IfOk result (λ list. list ≡ key_columns fields.now keys.now) }
+{
+    let mut list = Vec::new(alloc);
+    for (name, desc) in keys {
+        list.push(Key {
+            col: column(fields, name),
+            desc: *desc,
+        })?;
+    }
+    Ok(KeyList::from_vec(list))
 }
