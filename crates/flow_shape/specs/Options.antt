@@ -9,7 +9,7 @@ use Rattle.flow_graph.specs.declared.parts.OpParts.{OpParts}
 use Rattle.flow_shape.specs.declared.fault.ShapeWhy.{ShapeWhy}
 use Rattle.flow_shape.specs.declared.fault.ShapeWhy.TheVariants as why
 use Rattle.flow_shape.specs.Causes.{cause_if, first_cause}
-use Rattle.flow_shape.specs.Naming.{has_keys, key_columns}
+use Rattle.flow_shape.specs.Naming.{has_keys, key_columns, NamesDiffer}
 use Rattle.flow_shape.specs.Widths.{fields_cause}
 
 -- the operators whose options and outputs are defined here so far
@@ -69,3 +69,9 @@ operator_keys k ins = []
 
 abbrev pub operator_parts : OpKind → List (List Field) → OpParts
 operator_parts k ins = record { keys = operator_keys k ins; cols = [] }
+
+-- no name stands twice in a key
+abbrev pub KeysDistinct : OpKind → Type 0
+KeysDistinct (kind.Tsort key) = NamesDiffer key
+KeysDistinct (kind.Remdup key last) = NamesDiffer key
+KeysDistinct k = Unit {0}

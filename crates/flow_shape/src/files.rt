@@ -60,3 +60,105 @@ fn names_clash(a: &Name, b: &Name) -> bool
     let (a, b) = (a.as_slice(), b.as_slice());
     a == b || extends(a, b) || extends(b, a)
 }
+
+/// The name that an operator writes.
+fn written_name(kind: &OpKind) -> Option<&Name>
+    ensures { option_copied result ≡ written_name kind.now }
+{
+    match kind {
+        OpKind::Export { file, .. } => Some(file),
+        OpKind::Dswrite { ds } => Some(ds),
+        OpKind::Import { .. }
+        | OpKind::Dsread { .. }
+        | OpKind::Copy
+        | OpKind::Filter { .. }
+        | OpKind::Transform { .. }
+        | OpKind::Modify { .. }
+        | OpKind::Switch { .. }
+        | OpKind::Tsort { .. }
+        | OpKind::Remdup { .. }
+        | OpKind::Group { .. }
+        | OpKind::InnerJoin { .. }
+        | OpKind::LeftOuterJoin { .. }
+        | OpKind::RightOuterJoin { .. }
+        | OpKind::FullOuterJoin { .. }
+        | OpKind::Merge { .. }
+        | OpKind::Lookup { .. }
+        | OpKind::Changecapture { .. }
+        | OpKind::Funnel { .. } => None,
+    }
+}
+
+/// The name that an operator reads or writes.
+fn outer_name(kind: &OpKind) -> Option<&Name>
+    ensures { option_copied result ≡ outer_name kind.now }
+{
+    match kind {
+        OpKind::Import { file, .. } | OpKind::Export { file, .. } => Some(file),
+        OpKind::Dsread { ds } | OpKind::Dswrite { ds } => Some(ds),
+        OpKind::Copy
+        | OpKind::Filter { .. }
+        | OpKind::Transform { .. }
+        | OpKind::Modify { .. }
+        | OpKind::Switch { .. }
+        | OpKind::Tsort { .. }
+        | OpKind::Remdup { .. }
+        | OpKind::Group { .. }
+        | OpKind::InnerJoin { .. }
+        | OpKind::LeftOuterJoin { .. }
+        | OpKind::RightOuterJoin { .. }
+        | OpKind::FullOuterJoin { .. }
+        | OpKind::Merge { .. }
+        | OpKind::Lookup { .. }
+        | OpKind::Changecapture { .. }
+        | OpKind::Funnel { .. } => None,
+    }
+}
+
+fn both_clash(a: Option<&Name>, b: Option<&Name>) -> bool
+    ensures { result ≡ both_clash (option_copied a.entry) (option_copied b.entry) }
+{
+    match (a, b) {
+        (Some(a), Some(b)) => names_clash(a, b),
+        _ => false,
+    }
+}
+
+fn clash_with(flow: &Flow, op: u32, other: u32) -> bool
+    requires op { op < length flow.now.ops }
+    requires other { other < length flow.now.ops }
+    ensures { result ≡ both_clash (written_name (get_or flow.now.ops op no_op).kind) (outer_name (get_or flow.now.ops other no_op).kind) }
+{
+    both_clash(
+        written_name(&op_at(flow, op).kind),
+        outer_name(&op_at(flow, other).kind),
+    )
+}
+
+fn clashes(flow: &Flow, op: u32) -> bool
+    requires few { length flow.now.ops < 2 ^ 32 }
+    requires op { op < length flow.now.ops }
+    ensures yes { result ≡ true → Clashes flow.now.ops op }
+    ensures no { result ≡ false → Clashes flow.now.ops op → ⊥ }
+{
+    for other in 0..flow.ops.as_slice().len() as u32 {
+        if other != op && clash_with(flow, op, other) {
+            return true;
+        }
+    }
+    false
+}
+
+/// The lowest operator that writes a name that clashes with another operator's.
+pub fn lowest_clash(flow: &Flow) -> Option<u32>
+    requires { length flow.now.ops < 2 ^ 32 }
+    ensures found { IfSome result (λ i. IsLowest (length flow.now.ops) (Clashes flow.now.ops) i) }
+    ensures none { IfNone result (HasNone (length flow.now.ops) (Clashes flow.now.ops)) }
+{
+    for op in 0..flow.ops.as_slice().len() as u32 {
+        if clashes(flow, op) {
+            return Some(op);
+        }
+    }
+    None
+}
