@@ -3,7 +3,7 @@ use Rattle.std.specs.Prelude.{ℕ, ◌≡◌, ◌<◌, ◌++◌, ◌⊎◌, Bool
 use Rattle.std.specs.List.{AllByRecursion, range_with_len}
 use Rattle.std.specs.Str.{bytes_eq}
 use Rattle.ds_schema.specs.declared.schema.Field.{Field}
-use Rattle.flow_graph.specs.Charts.{Chart, link_at, all_links, links_into, links_from, op_at, is_seq}
+use Rattle.flow_graph.specs.Charts.{Chart, link_at, all_links, links_into, op_at, is_seq}
 use Rattle.flow_graph.specs.declared.flow.Flow.{Flow}
 use Rattle.flow_graph.specs.declared.flow.OpSpec.{OpSpec}
 use Rattle.flow_graph.specs.declared.op_kind.OpKind.{OpKind}
@@ -22,6 +22,10 @@ use Rattle.flow_shape.specs.Ports.{WrongPorts}
 
 abbrev pub HasOnlyKnown : Flow → Type 0
 HasOnlyKnown flow = AllByRecursion (λ (o : OpSpec). IsKnown o.kind) flow.ops
+
+-- a flow whose links have these fields, where nothing else is known yet
+abbrev pub chart_of : Flow → List (List Field) → Chart
+chart_of flow schemas = record { flow = flow; schemas = schemas; parts = []; written = []; order = []; stored = [] }
 
 abbrev pub kind_at : Chart → ℕ → OpKind
 kind_at c o = (op_at c o).kind
@@ -47,7 +51,7 @@ given_on c l = output_fields (kind_at c (link_at c l).from) (inputs_at c (link_a
 -- nothing is wrong at an operator, and the links that leave it have the fields that it gives
 pub record Fits (c : Chart) (o : ℕ) : Type 0 where
   pub sound : operator_cause c o ≡ None
-  pub gives : AllByRecursion (λ l. fields_at c l ≡ given_on c l) (links_from c o)
+  pub gives : (l : ℕ) → l < length c.flow.links → (link_at c l).from ≡ o → fields_at c l ≡ given_on c l
 
 abbrev pub all_ops : Chart → List ℕ
 all_ops c = range_with_len 0 (length c.flow.ops)
@@ -63,18 +67,18 @@ abbrev pub stored_for : List Stored → OpKind → Option Stored
 stored_for dict (kind.Dsread ds) = find (λ (s : Stored). bytes_eq s.name ds) dict
 stored_for dict k = None
 
--- the schemas of a flow at which each operator fits
-pub record AllFit (flow : Flow) (c : Chart) : Type 0 where
-  pub same : c.flow ≡ flow
-  pub each_link : length c.schemas ≡ length flow.links
-  pub fits : (o : ℕ) → o < length flow.ops → Fits c o
+-- each link has a schema, and each operator fits
+pub record AllFit (c : Chart) : Type 0 where
+  pub each_link : length c.schemas ≡ length c.flow.links
+  pub fits : (o : ℕ) → o < length c.flow.ops → Fits c o
 
 -- the shape of a flow: the flow as it is, and what its names stand for
 pub record IsShapeOf (flow : Flow) (dict : List Stored) (c : Chart) : Type 0 where
+  pub same : c.flow ≡ flow
   pub ports : HasNone (length flow.ops) (WrongPorts flow)
   pub order : IsOrder (length flow.ops) flow.links c.order
   pub whole : IsWhole (length flow.ops) c.order
-  pub schemas : AllFit flow c
+  pub schemas : AllFit c
   pub parts : c.parts ≡ map (parts_at c) (all_ops c)
   pub written : c.written ≡ map (written_at c) (all_links c)
   pub stored : c.stored ≡ map (λ o. stored_for dict (kind_at c o)) (all_ops c)
@@ -82,14 +86,14 @@ pub record IsShapeOf (flow : Flow) (dict : List Stored) (c : Chart) : Type 0 whe
 
 -- the operators before this one in the order fit, and this is the first cause at it
 pub record FirstFault (flow : Flow) (cause : ShapeWhy) (o : ℕ) : Type 0 where
-  pub chart : Chart
-  pub same : chart.flow ≡ flow
-  pub order : IsOrder (length flow.ops) flow.links chart.order
+  pub order : List ℕ
+  pub is_order : IsOrder (length flow.ops) flow.links order
   pub before : List ℕ
   pub behind : List ℕ
-  pub place : chart.order ≡ before ++ o ∷ behind
-  pub fit : AllByRecursion (Fits chart) before
-  pub stands : operator_cause chart o ≡ Some cause
+  pub place : order ≡ before ++ o ∷ behind
+  pub schemas : List (List Field)
+  pub fit : AllByRecursion (Fits (chart_of flow schemas)) before
+  pub stands : operator_cause (chart_of flow schemas) o ≡ Some cause
 
 -- the first fault of a flow: the lowest operator with wrong ports, else the lowest on a cycle, else the first in topological order that doesn't fit, else the lowest that writes a name that clashes
 abbrev pub Refuses : Flow → ShapeWhy → ℕ → Type 0
@@ -98,4 +102,4 @@ Refuses flow cause o =
     ((cause ≡ why.Ports) × IsLowest n (WrongPorts flow) o)
     ⊎ (((cause ≡ why.Cycle) × HasNone n (WrongPorts flow) × IsLowest n (OnCycle flow.links) o)
     ⊎ ((HasNone n (WrongPorts flow) × HasNone n (OnCycle flow.links) × FirstFault flow cause o)
-    ⊎ ((cause ≡ why.Files) × HasNone n (WrongPorts flow) × HasNone n (OnCycle flow.links) × ((c : Chart) × AllFit flow c) × IsLowest n (Clashes flow.ops) o)))
+    ⊎ ((cause ≡ why.Files) × HasNone n (WrongPorts flow) × HasNone n (OnCycle flow.links) × ((schemas : List (List Field)) × AllFit (chart_of flow schemas)) × IsLowest n (Clashes flow.ops) o)))

@@ -5,6 +5,7 @@
 mod cycle;
 mod fault;
 mod files;
+mod inputs;
 mod methods;
 mod naming;
 mod options;

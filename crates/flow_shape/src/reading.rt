@@ -11,18 +11,18 @@ pub fn op_at(flow: &Flow, op: u32) -> &OpSpec
     &flow.ops.as_slice()[op as usize]
 }
 
-pub fn link_at(flow: &Flow, link: u32) -> &LinkSpec
+pub fn link_at(flow: &Flow, link: usize) -> &LinkSpec
     requires { link < length flow.now.links }
     ensures { result.now ≡ get_or flow.now.links link no_link }
 {
-    &flow.links.as_slice()[link as usize]
+    &flow.links.as_slice()[link]
 }
 
 /// The fields of a link; none where its schema isn't known.
-pub fn fields_at(schemas: &[Schema], link: u32) -> &[Field]
+pub fn fields_at(schemas: &[Schema], link: usize) -> &[Field]
     ensures { result.now ≡ get_or schemas.now link [] }
 {
-    match schemas.get(link as usize) {
+    match schemas.get(link) {
         Some(schema) => schema.as_slice(),
         None => &[],
     }
