@@ -1,4 +1,5 @@
 pub mod Firsts
+pub mod Causing
 pub mod Entries
 pub mod Keys
 pub mod Marks

@@ -8,6 +8,7 @@ mod files;
 mod inputs;
 mod methods;
 mod naming;
+mod operator;
 mod options;
 mod ports;
 mod reading;
