@@ -1,5 +1,6 @@
 pub mod Causes
 pub mod Files
+pub mod Giving
 pub mod Laws
 pub mod Links
 pub mod Methods

@@ -52,14 +52,22 @@ output_causes k ins = []
 abbrev pub line_fields : List Field
 line_fields = record { name = codes "line"; nullable = false; kind = data_kind.Text 65536 false } ∷ []
 
+-- the schema that an import has of its own
+abbrev pub own_fields : OpKind → Option (List Field)
+own_fields (kind.Import file schema delim fixed reject) = Some schema
+own_fields k = None
+
 abbrev pub import_fields : List Field → ℕ → List Field
 import_fields schema zero = schema
 import_fields schema (suc q) = line_fields
 
--- the fields of output q
+abbrev pub fields_by : Option (List Field) → List (List Field) → ℕ → List Field
+fields_by None ins q = first_fields ins
+fields_by (Some schema) ins q = import_fields schema q
+
+-- the fields of output q: those of input 0, but where the operator has a schema of its own
 abbrev pub output_fields : OpKind → List (List Field) → ℕ → List Field
-output_fields (kind.Import file schema delim fixed reject) ins q = import_fields schema q
-output_fields k ins q = first_fields ins
+output_fields k ins q = fields_by (own_fields k) ins q
 
 -- the key lists of an operator, one for each input
 abbrev pub operator_keys : OpKind → List (List Field) → List (List Key)

@@ -10,6 +10,7 @@ mod methods;
 mod naming;
 mod operator;
 mod options;
+mod outputs;
 mod ports;
 mod reading;
 mod sequence;
