@@ -1,0 +1,11 @@
+pub mod Firsts
+pub mod Causing
+pub mod Entries
+pub mod Given
+pub mod Keys
+pub mod Marks
+pub mod Numbers
+pub mod Orders
+pub mod Places
+pub mod Same
+pub mod Stuck

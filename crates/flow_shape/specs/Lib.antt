@@ -1,0 +1,11 @@
+pub mod Causes
+pub mod Files
+pub mod Giving
+pub mod Laws
+pub mod Links
+pub mod Methods
+pub mod Naming
+pub mod Options
+pub mod Ports
+pub mod Refusals
+pub mod Widths

@@ -1,0 +1,20 @@
+//! The shape of a flow: the schema of each link, names turned to columns, and the order of the
+//! operators; or its first fault.
+#![tactic(auto)]
+
+mod cycle;
+mod fault;
+mod files;
+mod inputs;
+mod methods;
+mod naming;
+mod operator;
+mod options;
+mod outputs;
+mod ports;
+mod reading;
+mod sequence;
+mod widths;
+
+pub use sequence::{one_order, ordered_is_free};
+pub use fault::{ShapeFault, ShapeWhy};
