@@ -1,0 +1,4 @@
+pub mod Ended
+pub mod Dealing
+pub mod Feeding
+pub mod Runs
