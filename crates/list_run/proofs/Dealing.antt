@@ -1,15 +1,16 @@
 -- What dealing row by row, and producer by producer, leaves in each list.
-use Rattle.std.proofs.Common.{◌≡◌, ◌≢◌, ◌⊎◌, inl, inr, ℕ, zero, suc, ◌+◌, ◌<◌, ◌≤◌, ◌%◌, ◌==◌, Bool, true, false, cond, refl, sym, ap, ap₂, ◌∙◌, subst, List, [], ◌∷◌, ◌++◌, length, get_or, set, replicate, append-nil, append_assoc, arith}
-use Rattle.std.specs.List.{flat_map}
+use Rattle.std.proofs.Common.{◌≡◌, ◌≢◌, ◌⊎◌, inl, inr, ℕ, zero, suc, ◌+◌, ◌<◌, ◌≤◌, ◌%◌, ◌==◌, Bool, true, false, cond, refl, sym, ap, ap₂, ◌∙◌, subst, List, [], ◌∷◌, ◌++◌, length, get_or, set, replicate, map, append-nil, append_assoc, arith}
+use Rattle.std.specs.List.{flat_map, range_with_len}
 use Rattle.std.proofs.Math.Nat.{mod-add-mod}
 use Rattle.std.proofs.lemmas.Bool.Decides.{eqb_tells}
-use Rattle.std.proofs.lemmas.List.{get_or-set_other, get_or-set_same, length-set}
+use Rattle.std.proofs.lemmas.List.{get_or-set_other, get_or-set_same, length-set, ext_get_or}
+use Rattle.std.proofs.lemmas.List.FromFn.{length-map-range_with_len, get_or-map-range_with_len}
 use Rattle.std.proofs.lemmas.Grind.{flat_map-append}
 use Rattle.op_base.specs.Columns.{Row}
 use Rattle.op_base.specs.Lists.{Interleaves, joined}
 use Rattle.op_base.proofs.Interleavings.{joined_interleaves}
 use Rattle.flow_graph.specs.Destinations.{lane, lanes_to, SentFrom}
-use Rattle.list_run.specs.Dealt.{Deals, Dealt, turn_goes}
+use Rattle.list_run.specs.Dealt.{Deals, Dealt, dealt, turn_goes}
 
 -- a lane of one more row
 lane-more : {X : Type 0} (goes : ℕ → X → ℕ) (j t : ℕ) (xs : List X) (x : X) → lane goes j t (xs ++ x ∷ []) ≡ lane goes j t xs ++ cond (goes (t + length xs) x == j) (x ∷ []) []
@@ -105,11 +106,29 @@ sent_from goes sent n (xs ∷ got) h = (
     later : (n i : ℕ) → n + suc i ≡ suc n + i
     later n i = omega arith
 
-pub Dealt-sent : (goes : ℕ → ℕ → Row → ℕ) (sent : List (List Row)) (n : ℕ) (got : List (List Row)) → Dealt goes sent n got → SentFrom goes 0 sent got
-Dealt-sent goes sent n got d = sent_from goes sent 0 got (λ i l. d.each i (subst (λ m. i < m) d.count_is l) ∙ ap (λ m. joined (lanes_to goes m 0 sent)) (plain i))
+pub Dealt-is : (goes : ℕ → ℕ → Row → ℕ) (sent : List (List Row)) (n : ℕ) (got : List (List Row)) → Dealt goes sent n got → got ≡ dealt goes n sent
+Dealt-is goes sent n got d = ext_get_or [] got (dealt goes n sent) (d.count_is ∙ sym (length-map-range_with_len (λ j. joined (lanes_to goes j 0 sent)) 0 n))
+    (λ i l. let k : i < n = subst (λ m. i < m) d.count_is l in d.each i k ∙ sym (get_or-map-range_with_len (λ j. joined (lanes_to goes j 0 sent)) 0 n i i [] k (plain i)))
   where
-    plain : (i : ℕ) → i ≡ 0 + i
+    plain : (i : ℕ) → 0 + i ≡ i
     plain i = omega arith
+
+pub dealt_long : (goes : ℕ → ℕ → Row → ℕ) (sent : List (List Row)) (n : ℕ) → length (dealt goes n sent) ≡ n
+dealt_long goes sent n = length-map-range_with_len (λ j. joined (lanes_to goes j 0 sent)) 0 n
+
+pub dealt_sent : (goes : ℕ → ℕ → Row → ℕ) (sent : List (List Row)) (n : ℕ) → SentFrom goes 0 sent (dealt goes n sent)
+dealt_sent goes sent n = sent_from goes sent 0 (dealt goes n sent) (λ i l. get_or-map-range_with_len (λ j. joined (lanes_to goes j 0 sent)) 0 n i (0 + i) [] (subst (λ m. i < m) (dealt_long goes sent n) l) refl)
+
+same_lanes : {X : Type 0} (f g : ℕ → ℕ → X → ℕ) → ((p t : ℕ) (x : X) → f p t x ≡ g p t x) → (j p : ℕ) (lists : List (List X)) → lanes_to f j p lists ≡ lanes_to g j p lists
+same_lanes f g h j p [] = refl
+same_lanes f g h j p (xs ∷ lists) = ap₂ (λ a b. a ∷ b) (same_lane (f p) (g p) (h p) j 0 xs) (same_lanes f g h j (suc p) lists)
+
+map_same : {X Y : Type 0} (f g : X → Y) → ((x : X) → f x ≡ g x) → (xs : List X) → map f xs ≡ map g xs
+map_same f g h [] = refl
+map_same f g h (x ∷ xs) = ap₂ (λ a b. a ∷ b) (h x) (map_same f g h xs)
+
+pub dealt_same : (f g : ℕ → ℕ → Row → ℕ) → ((p t : ℕ) (x : Row) → f p t x ≡ g p t x) → (n : ℕ) (sent : List (List Row)) → dealt f n sent ≡ dealt g n sent
+dealt_same f g h n sent = map_same (λ j. joined (lanes_to f j 0 sent)) (λ j. joined (lanes_to g j 0 sent)) (λ j. ap joined (same_lanes f g h j 0 sent)) (range_with_len 0 n)
 
 -- turns
 pub turn-next : (at first n count : ℕ) → at ≡ (first + n) % count → (at + 1) % count ≡ (first + (n + 1)) % count

@@ -1,12 +1,15 @@
 //! Rows on their way from the partitions of a producer to those of a consumer.
 
-ghost use Rattle.std.specs.Prelude.{◌≡◌, ◌<◌, ◌+◌, ◌%◌, ◌∷◌, ◌++◌, [], ℕ, length, get_or, slice_set, replicate, OnOk, IfOk};
+ghost use Rattle.std.specs.Prelude.{◌≡◌, ◌<◌, ◌+◌, ◌%◌, ◌∷◌, ◌++◌, [], ℕ, length, get_or, slice_set, replicate, OnOk, IfOk, All};
 ghost use Rattle.op_base.specs.Lists.{joined};
-ghost use Rattle.flow_graph.specs.Destinations.{SentFrom};
-ghost use Rattle.list_run.specs.Dealt.{Deals, turn_goes};
+ghost use Rattle.ds_place.specs.Places.{place_number};
+ghost use Rattle.list_run.specs.Dealt.{Deals, dealt, turn_goes};
+ghost use Rattle.list_run.specs.Routed.{SuitsRoute, SuitsPlace, routed};
 
+use ds_place::{Place, partition_of};
 use ds_schema::Row;
-use ds_value::{Items, NoMemory};
+use ds_value::{Copied, Items, NoMemory};
+use flow_graph::Route;
 use std::alloc::Global;
 
 /// The rows of each partition.
@@ -78,8 +81,7 @@ fn deal_in_turn(first: u32, rows: Items<Row>, lists: &mut Vec<Items<Row>>, count
 /// Round robin into a parallel consumer.
 pub(crate) fn round_robin(alloc: Global, sent: Partitions, count: u32) -> Result<Partitions, NoMemory>
     requires { 0 < count }
-    ensures count { IfOk result (λ got. length got ≡ count) }
-    ensures sent { IfOk result (λ got. SentFrom (λ p t r. (p + t) % count) 0 sent got) }
+    ensures { IfOk result (λ got. got ≡ dealt (λ p t r. (p + t) % count) count sent) }
 {
     let mut lists = empty_partitions(alloc, count)?;
     let mut first = 0;
@@ -88,4 +90,42 @@ pub(crate) fn round_robin(alloc: Global, sent: Partitions, count: u32) -> Result
         first = next_turn(first, count);
     }
     Ok(Items::from_vec(lists))
+}
+
+/// Deals the rows of a producer to the partitions in which a place puts them.
+fn deal_by_place(place: &Place, rows: Items<Row>, lists: &mut Vec<Items<Row>>, count: u32) -> Result<(), NoMemory>
+    requires some { 0 < count }
+    requires count { length lists.old.items ≡ count }
+    requires rows { All (SuitsPlace place.now) rows }
+    ensures { OnOk result (Deals (λ t r. place_number place.now r count) rows lists.old.items lists.new.items) }
+{
+    for row in rows.into_vec() {
+        let at = partition_of(place, &row, count);
+        put_row(lists, at, row)?;
+    }
+    Ok(())
+}
+
+/// To the partitions in which a place puts the rows.
+fn by_place(alloc: Global, place: &Place, sent: Partitions, count: u32) -> Result<Partitions, NoMemory>
+    requires some { 0 < count }
+    requires rows { All (All (SuitsPlace place.now)) sent }
+    ensures { IfOk result (λ got. got ≡ dealt (λ p t r. place_number place.now r count) count sent) }
+{
+    let mut lists = empty_partitions(alloc, count)?;
+    for rows in sent.into_vec() {
+        deal_by_place(place, rows, &mut lists, count)?;
+    }
+    Ok(Items::from_vec(lists))
+}
+
+/// By the hash of some columns.
+pub(crate) fn by_hash(alloc: Global, columns: &Items<u32>, sent: Partitions, count: u32) -> Result<Partitions, NoMemory>
+    requires some { 0 < count }
+    requires rows { All (All (SuitsRoute (Route.Hash columns.now))) sent }
+    ensures { IfOk result (λ got. got ≡ routed (Route.Hash columns.now) count sent) }
+{
+    let place = Place::Hash(columns.copied()?);
+    let got = by_place(alloc, &place, sent, count)?;
+    Ok(got)
 }
