@@ -1,0 +1,7 @@
+//! What a run needs of a flow and a configuration, and the texts that tell of it.
+#![tactic(auto)]
+
+mod columns;
+mod score;
+mod states;
+
