@@ -4,4 +4,5 @@
 mod columns;
 mod score;
 mod states;
+mod verdict;
 

@@ -22,7 +22,7 @@ fn put_place(text: &mut Bytes, fields: &[Field], place: &Place) -> Result<(), No
     }
 }
 
-fn put_spot(text: &mut Bytes, fields: &[Field], spot: &Spot) -> Result<(), NoMemory>
+pub fn put_spot(text: &mut Bytes, fields: &[Field], spot: &Spot) -> Result<(), NoMemory>
     ensures { OnOk result (text.new ≡ text.old ++ spot_text fields.now spot.now) }
 {
     match spot {
