@@ -1,12 +1,13 @@
 -- What is printed of a verdict: the state of each link and the grade of each sink, or the link that is refused.
-use Rattle.std.specs.Prelude.{ℕ, Bool, true, false, cond, List, [], ◌∷◌, ◌++◌, length, get_or, codes}
-use Rattle.std.specs.List.{flat_map, range_with_len}
+use Rattle.std.specs.Prelude.{ℕ, Bool, true, false, cond, List, [], ◌∷◌, ◌++◌, ◌==◌, ◌≡◌, ◌<◌, length, get_or, codes}
+use Rattle.std.specs.List.{filter, flat_map, range_with_len}
 use Rattle.std.specs.Fmt.{decimal}
 use Rattle.ds_schema.specs.declared.schema.Field.{Field}
 use Rattle.flow_graph.specs.declared.op_kind.OpKind.{OpKind}
 use Rattle.flow_graph.specs.declared.op_kind.OpKind.TheVariants as kind
+use Rattle.flow_graph.specs.declared.flow.LinkSpec.{LinkSpec}
 use Rattle.flow_graph.specs.declared.state.State.{State}
-use Rattle.flow_graph.specs.Charts.{Chart, op_at, links_into}
+use Rattle.flow_graph.specs.Charts.{Chart, op_at, no_link}
 use Rattle.flow_graph.specs.Grades.{grade}
 use Rattle.flow_rules.specs.declared.need.Need.{Need}
 use Rattle.flow_rules.specs.declared.verdict.Verdict.{Verdict}
@@ -21,8 +22,15 @@ fields_at c l = get_or c.schemas l []
 abbrev pub state_line : ℕ → List Field → State → List ℕ
 state_line l fields s = codes "link " ++ (decimal l ++ (codes " " ++ (state_text fields s ++ codes "\n")))
 
+unfoldable pub line_of : Chart → List State → ℕ → List ℕ
+line_of c states l = state_line l (fields_at c l) (state_at states l)
+
 abbrev pub state_lines : Chart → List State → List ℕ
-state_lines c states = flat_map (λ l. state_line l (fields_at c l) (state_at states l)) (range_with_len 0 (length states))
+state_lines c states = flat_map (line_of c states) (range_with_len 0 (length states))
+
+-- the links into an operator
+abbrev pub links_to : List LinkSpec → ℕ → List ℕ
+links_to links o = filter (λ l. (get_or links l no_link).to == o) (range_with_len 0 (length links))
 
 -- operators that leave something behind
 abbrev pub is_sink : OpKind → Bool
@@ -35,7 +43,7 @@ sink_line o fields s = codes "sink " ++ (decimal o ++ (codes " " ++ (grade_text 
 
 -- the grade of what comes at a sink
 abbrev pub sink_at : Chart → List State → ℕ → List ℕ
-sink_at c states o = let l = get_or (links_into c o) 0 0 in cond (is_sink (op_at c o).kind) (sink_line o (fields_at c l) (state_at states l)) []
+sink_at c states o = let l = get_or (links_to c.flow.links o) 0 0 in cond (is_sink (op_at c o).kind) (sink_line o (fields_at c l) (state_at states l)) []
 
 abbrev pub sink_lines : Chart → List State → List ℕ
 sink_lines c states = flat_map (sink_at c states) (range_with_len 0 (length c.flow.ops))
@@ -52,3 +60,8 @@ refusal_text l fields need have = refused ++ (codes "link " ++ (decimal l ++ (co
 abbrev pub verdict_text : Chart → Verdict → List ℕ
 verdict_text c (Accepted states choices) = codes "verdict accepted\n" ++ (state_lines c states ++ sink_lines c states)
 verdict_text c (Refused link need have) = refusal_text link (fields_at c link) need have
+
+-- a verdict on this flow has a state for each link, or names a link of it
+abbrev pub IsOf : Chart → Verdict → Type 0
+IsOf c (Accepted states choices) = length states ≡ length c.flow.links
+IsOf c (Refused link need have) = link < length c.flow.links

@@ -2,7 +2,11 @@
 #![tactic(auto)]
 
 mod columns;
+mod lines;
+mod links;
 mod score;
 mod states;
 mod verdict;
 
+
+pub use verdict::verdict_text;

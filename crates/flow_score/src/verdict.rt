@@ -1,156 +1,118 @@
-//! The text of a verdict.
+//! The whole text of a verdict.
 
-ghost use Rattle.std.specs.Prelude.{◌≡◌, ◌<◌, ◌++◌, OnOk, IfOk, string_bytes, codes, length, get_or, ◌^◌};
-ghost use Rattle.std.specs.Fmt.{decimal};
-ghost use Rattle.op_base.specs.Columns.{all_columns, lies};
-ghost use Rattle.flow_graph.specs.Grades.{grade};
-ghost use Rattle.flow_score.specs.Texts.{agree_text, grade_text, state_text, need_text};
-ghost use Rattle.flow_score.specs.VerdictText.{state_line, sink_line, missed_text, refused, refusal_text};
+ghost use Rattle.std.specs.Prelude.{◌≡◌, ◌++◌, OnOk, IfOk, length, ◌<◌};
+ghost use Rattle.flow_graph.specs.FlowShape.{IsShape};
+ghost use Rattle.flow_score.specs.VerdictText.{is_sink, line_of, sink_at, sink_lines, state_lines, verdict_text, IsOf};
 
-use crate::columns::{put, put_columns, put_named_columns, put_named_keys};
-use crate::states::{put_need, put_spot};
-use ds_schema::Field;
+use crate::columns::put;
+use crate::links::input_link;
+use crate::lines::{put_refusal, put_sink_line, put_state_line};
 use ds_value::{Bytes, NoMemory};
-use flow_graph::{ColSet, State};
-use flow_rules::Need;
-use std::alloc::{AllocError, Global};
+use flow_graph::{OpKind, Shaped, State};
+use flow_rules::Verdict;
+use std::alloc::Global;
 
-/// Whether the set has all columns of a link.
-#[tactic(auto, using(crate::proofs::Widths::all_step, crate::proofs::Widths::all_kept))]
-fn has_all(set: &ColSet, width: u32) -> bool
-    ensures { result ≡ lies (all_columns width) set.now }
+#[tactic(auto, unfolding(crate::specs::VerdictText::line_of))]
+fn put_line(
+    alloc: Global,
+    text: &mut Bytes,
+    shaped: &Shaped,
+    states: &[State],
+    link: usize,
+) -> Result<(), NoMemory>
+    requires shape { IsShape shaped.now }
+    requires each { length states.now ≡ length shaped.now.flow.links }
+    requires link { link < length shaped.now.flow.links }
+    ensures { OnOk result (text.new ≡ text.old ++ line_of shaped.now states.now link) }
 {
-    for column in 0..width {
-        if !set.contains(column) {
-            return false;
+    let fields = shaped.schema(link as u32).as_slice();
+    put_state_line(alloc, text, link as u32, fields, &states[link])
+}
+
+fn put_states(
+    alloc: Global,
+    text: &mut Bytes,
+    shaped: &Shaped,
+    states: &[State],
+) -> Result<(), NoMemory>
+    requires shape { IsShape shaped.now }
+    requires each { length states.now ≡ length shaped.now.flow.links }
+    ensures { OnOk result (text.new ≡ text.old ++ state_lines shaped.now states.now) }
+{
+    for link in 0..states.len() {
+        put_line(alloc, text, shaped, states, link)?;
+    }
+    Ok(())
+}
+
+fn is_sink(kind: &OpKind) -> bool
+    ensures { result ≡ is_sink kind.now }
+{
+    match kind {
+        OpKind::Export { .. } | OpKind::Dswrite { .. } => true,
+        _ => false,
+    }
+}
+
+#[tactic(auto, using(crate::proofs::SinkInputs::sink_input))]
+fn put_sink(
+    alloc: Global,
+    text: &mut Bytes,
+    shaped: &Shaped,
+    states: &[State],
+    op: usize,
+) -> Result<(), NoMemory>
+    requires shape { IsShape shaped.now }
+    requires each { length states.now ≡ length shaped.now.flow.links }
+    requires op { op < length shaped.now.flow.ops }
+    ensures { OnOk result (text.new ≡ text.old ++ sink_at shaped.now states.now op) }
+{
+    let flow = shaped.flow();
+    if !is_sink(&flow.ops.as_slice()[op].kind) {
+        return Ok(());
+    }
+    let link = input_link(flow.links.as_slice(), op as u32);
+    let fields = shaped.schema(link).as_slice();
+    put_sink_line(alloc, text, op as u32, fields, &states[link as usize])
+}
+
+fn put_sinks(
+    alloc: Global,
+    text: &mut Bytes,
+    shaped: &Shaped,
+    states: &[State],
+) -> Result<(), NoMemory>
+    requires shape { IsShape shaped.now }
+    requires each { length states.now ≡ length shaped.now.flow.links }
+    ensures { OnOk result (text.new ≡ text.old ++ sink_lines shaped.now states.now) }
+{
+    for op in 0..shaped.flow().ops.as_slice().len() {
+        put_sink(alloc, text, shaped, states, op)?;
+    }
+    Ok(())
+}
+
+/// The verdict as text: a line for each link and each sink, or one for the link that is refused.
+pub fn verdict_text(
+    alloc: Global,
+    shaped: &Shaped,
+    verdict: &Verdict,
+) -> Result<Bytes, NoMemory>
+    requires shape { IsShape shaped.now }
+    requires of { IsOf shaped.now verdict.now }
+    ensures { IfOk result (λ text. text ≡ verdict_text shaped.now verdict.now) }
+{
+    let mut text = Bytes::new(alloc);
+    match verdict {
+        Verdict::Accepted { states, .. } => {
+            put(&mut text, "verdict accepted\n")?;
+            put_states(alloc, &mut text, shaped, states.as_slice())?;
+            put_sinks(alloc, &mut text, shaped, states.as_slice())?;
+        }
+        Verdict::Refused { link, need, have } => {
+            let fields = shaped.schema(*link).as_slice();
+            put_refusal(alloc, &mut text, *link, fields, need, have)?;
         }
     }
-    true
-}
-
-/// The number of columns, of which there are at most 256.
-fn width(fields: &[Field]) -> u32
-    requires { length fields.now < 2 ^ 32 }
-    ensures { result ≡ length fields.now }
-{
-    fields.len() as u32
-}
-
-fn put_agree(text: &mut Bytes, fields: &[Field], agree: &Option<ColSet>) -> Result<(), NoMemory>
-    requires { length fields.now < 2 ^ 32 }
-    ensures { OnOk result (text.new ≡ text.old ++ agree_text fields.now agree.now) }
-{
-    let Some(set) = agree else {
-        return put(text, "bag");
-    };
-    if has_all(set, width(fields)) {
-        return put(text, "bag");
-    }
-    put_named_columns(text, "agree", fields, set.as_slice())
-}
-
-pub fn put_state(text: &mut Bytes, fields: &[Field], state: &State) -> Result<(), NoMemory>
-    requires { length fields.now < 2 ^ 32 }
-    ensures { OnOk result (text.new ≡ text.old ++ state_text fields.now state.now) }
-{
-    put_agree(text, fields, &state.agree)?;
-    put(text, " ")?;
-    put_spot(text, fields, &state.place)?;
-    put(text, " ")?;
-    put_named_keys(text, "sort", fields, state.sort.as_slice())
-}
-
-/// The grade of a sink whose link has this state.
-fn put_grade(text: &mut Bytes, fields: &[Field], state: &State) -> Result<(), NoMemory>
-    requires { length fields.now < 2 ^ 32 }
-    ensures { OnOk result (text.new ≡ text.old ++ grade_text fields.now (grade (length fields.now) state.now)) }
-{
-    let Some(set) = &state.agree else {
-        return put(text, "bag");
-    };
-    if set.as_slice().is_empty() {
-        return put(text, "exact");
-    }
-    if has_all(set, width(fields)) {
-        return put(text, "bag");
-    }
-    put(text, "by ")?;
-    put_columns(text, fields, set.as_slice())
-}
-
-/// A word, a number and a space.
-fn head(alloc: Global, word: &str, number: u32) -> Result<String, AllocError>
-    ensures { IfOk result (λ text. string_bytes text ≡ word.now ++ (codes " " ++ (decimal number ++ codes " "))) }
-{
-    format!(in alloc; "{word} {number} ")
-}
-
-pub fn put_state_line(
-    alloc: Global,
-    text: &mut Bytes,
-    link: u32,
-    fields: &[Field],
-    state: &State,
-) -> Result<(), NoMemory>
-    requires { length fields.now < 2 ^ 32 }
-    ensures { OnOk result (text.new ≡ text.old ++ state_line link fields.now state.now) }
-{
-    put(text, head(alloc, "link", link)?.as_str())?;
-    put_state(text, fields, state)?;
-    put(text, "\n")
-}
-
-pub fn put_sink_line(
-    alloc: Global,
-    text: &mut Bytes,
-    op: u32,
-    fields: &[Field],
-    state: &State,
-) -> Result<(), NoMemory>
-    requires { length fields.now < 2 ^ 32 }
-    ensures { OnOk result (text.new ≡ text.old ++ sink_line op fields.now state.now) }
-{
-    put(text, head(alloc, "sink", op)?.as_str())?;
-    put_grade(text, fields, state)?;
-    put(text, "\n")
-}
-
-#[tactic(auto, unfolding(crate::specs::VerdictText::missed_text))]
-fn put_missed(
-    text: &mut Bytes,
-    fields: &[Field],
-    need: &Need,
-    have: &State,
-) -> Result<(), NoMemory>
-    requires { length fields.now < 2 ^ 32 }
-    ensures { OnOk result (text.new ≡ text.old ++ missed_text fields.now need.now have.now) }
-{
-    put(text, "need ")?;
-    put_need(text, fields, need)?;
-    put(text, " have ")?;
-    put_state(text, fields, have)?;
-    put(text, "\n")
-}
-
-#[tactic(auto, unfolding(crate::specs::VerdictText::refused))]
-fn put_refused(text: &mut Bytes) -> Result<(), NoMemory>
-    ensures { OnOk result (text.new ≡ text.old ++ refused) }
-{
-    put(text, "verdict refused ")
-}
-
-pub fn put_refusal(
-    alloc: Global,
-    text: &mut Bytes,
-    link: u32,
-    fields: &[Field],
-    need: &Need,
-    have: &State,
-) -> Result<(), NoMemory>
-    requires { length fields.now < 2 ^ 32 }
-    ensures { OnOk result (text.new ≡ text.old ++ refusal_text link fields.now need.now have.now) }
-{
-    put_refused(text)?;
-    put(text, head(alloc, "link", link)?.as_str())?;
-    put_missed(text, fields, need, have)
+    Ok(text)
 }
