@@ -1,121 +1,109 @@
-//! The lines of a score.
+//! The whole text of a score.
 
-ghost use Rattle.std.specs.Prelude.{◌≡◌, ◌++◌, OnOk, IfOk, string_bytes, codes};
+ghost use Rattle.std.specs.Prelude.{◌≡◌, ◌<◌, ◌≤◌, ◌^◌, ◌++◌, OnOk, IfOk, length, string_bytes, codes};
 ghost use Rattle.std.specs.Fmt.{decimal};
-ghost use Rattle.flow_score.specs.Scores.{kind_name, mark_name, op_line, end_text, ends_text, sort_text, link_line};
+ghost use Rattle.flow_graph.specs.FlowShape.{IsShape};
+ghost use Rattle.flow_score.specs.Scores.{op_of, op_lines, link_of, link_lines, nodes_line, players_line, score_text};
+ghost use Rattle.flow_score.specs.Seating.{Seats};
 
-use crate::columns::{put, put_named_keys};
-use crate::states::put_route;
-use ds_schema::{Field, KeyList};
+use crate::columns::put;
+use crate::degrees::degree;
+use crate::score_lines::{put_link, put_op};
 use ds_value::{Bytes, NoMemory};
-use flow_graph::{Choice, LinkSpec, Mark, OpKind, OpSpec};
+use flow_graph::{Choice, Shaped};
 use std::alloc::{AllocError, Global};
 
-pub fn kind_name(kind: &OpKind) -> &'static str
-    ensures { result.now ≡ kind_name kind.now }
-{
-    match kind {
-        OpKind::Import { .. } => "import",
-        OpKind::Export { .. } => "export",
-        OpKind::Dsread { .. } => "dsread",
-        OpKind::Dswrite { .. } => "dswrite",
-        OpKind::Copy => "copy",
-        OpKind::Filter { .. } => "filter",
-        OpKind::Transform { .. } => "transform",
-        OpKind::Modify { .. } => "modify",
-        OpKind::Switch { .. } => "switch",
-        OpKind::Tsort { .. } => "tsort",
-        OpKind::Remdup { .. } => "remdup",
-        OpKind::Group { .. } => "group",
-        OpKind::InnerJoin { .. } => "innerjoin",
-        OpKind::LeftOuterJoin { .. } => "leftouterjoin",
-        OpKind::RightOuterJoin { .. } => "rightouterjoin",
-        OpKind::FullOuterJoin { .. } => "fullouterjoin",
-        OpKind::Merge { .. } => "merge",
-        OpKind::Lookup { .. } => "lookup",
-        OpKind::Changecapture { .. } => "changecapture",
-        OpKind::Funnel { .. } => "funnel",
-    }
-}
-
-fn mark_name(mark: Mark) -> &'static str
-    ensures { result.now ≡ mark_name mark }
-{
-    match mark {
-        Mark::Seq => "seq",
-        Mark::Par => "par",
-        Mark::Stored => "set",
-    }
-}
-
-fn op_text(alloc: Global, number: u32, op: &OpSpec, degree: u32) -> Result<String, AllocError>
-    ensures { IfOk result (λ text. string_bytes text ≡ op_line number op.now degree) }
-{
-    let (name, mark) = (kind_name(&op.kind), mark_name(op.mark));
-    format!(in alloc; "op {number} {name} {mark} {degree}\n")
-}
-
-pub fn put_op(
+#[tactic(auto, unfolding(crate::specs::Scores::op_of))]
+fn put_op_of(
     alloc: Global,
     text: &mut Bytes,
-    number: u32,
-    op: &OpSpec,
-    degree: u32,
+    shaped: &Shaped,
+    nodes: u32,
+    op: usize,
 ) -> Result<(), NoMemory>
-    ensures { OnOk result (text.new ≡ text.old ++ op_line number op.now degree) }
+    requires shape { IsShape shaped.now }
+    requires op { op < length shaped.now.flow.ops }
+    ensures { OnOk result (text.new ≡ text.old ++ op_of shaped.now nodes op) }
 {
-    put(text, op_text(alloc, number, op, degree)?.as_str())
+    let degree = degree(shaped, op as u32, nodes);
+    let spec = &shaped.flow().ops.as_slice()[op];
+    put_op(alloc, text, op as u32, spec, degree)
 }
 
-fn link_head(alloc: Global, number: u32) -> Result<String, AllocError>
-    ensures { IfOk result (λ text. string_bytes text ≡ codes "link " ++ (decimal number ++ codes " ")) }
+fn put_ops(alloc: Global, text: &mut Bytes, shaped: &Shaped, nodes: u32) -> Result<(), NoMemory>
+    requires { IsShape shaped.now }
+    ensures { OnOk result (text.new ≡ text.old ++ op_lines shaped.now nodes) }
 {
-    format!(in alloc; "link {number} ")
-}
-
-fn end_text(alloc: Global, op: u32, port: u32) -> Result<String, AllocError>
-    ensures { IfOk result (λ text. string_bytes text ≡ end_text op port) }
-{
-    format!(in alloc; "{op}.{port} ")
-}
-
-fn put_ends(
-    alloc: Global,
-    text: &mut Bytes,
-    number: u32,
-    link: &LinkSpec,
-) -> Result<(), NoMemory>
-    ensures { OnOk result (text.new ≡ text.old ++ ends_text number link.now) }
-{
-    put(text, link_head(alloc, number)?.as_str())?;
-    put(text, end_text(alloc, link.from, link.out)?.as_str())?;
-    put(text, end_text(alloc, link.to, link.port)?.as_str())
-}
-
-fn put_sort(text: &mut Bytes, fields: &[Field], sort: &Option<KeyList>) -> Result<(), NoMemory>
-    ensures { OnOk result (text.new ≡ text.old ++ sort_text fields.now sort.now) }
-{
-    match sort {
-        None => Ok(()),
-        Some(keys) => {
-            put(text, " ")?;
-            put_named_keys(text, "tsort", fields, keys.as_slice())
-        }
+    for op in 0..shaped.flow().ops.as_slice().len() {
+        put_op_of(alloc, text, shaped, nodes, op)?;
     }
+    Ok(())
 }
 
-pub fn put_link(
+#[tactic(auto, unfolding(crate::specs::Scores::link_of))]
+fn put_link_of(
     alloc: Global,
     text: &mut Bytes,
-    number: u32,
-    link: &LinkSpec,
-    fields: &[Field],
-    choice: &Choice,
+    shaped: &Shaped,
+    choices: &[Choice],
+    link: usize,
 ) -> Result<(), NoMemory>
-    ensures { OnOk result (text.new ≡ text.old ++ link_line number link.now fields.now choice.now) }
+    requires shape { IsShape shaped.now }
+    requires each { length choices.now ≡ length shaped.now.flow.links }
+    requires link { link < length shaped.now.flow.links }
+    ensures { OnOk result (text.new ≡ text.old ++ link_of shaped.now choices.now link) }
 {
-    put_ends(alloc, text, number, link)?;
-    put_route(text, fields, &choice.method)?;
-    put_sort(text, fields, &choice.sort)?;
-    put(text, "\n")
+    let fields = shaped.schema(link as u32).as_slice();
+    let spec = &shaped.flow().links.as_slice()[link];
+    put_link(alloc, text, link as u32, spec, fields, &choices[link])
+}
+
+fn put_links(
+    alloc: Global,
+    text: &mut Bytes,
+    shaped: &Shaped,
+    choices: &[Choice],
+) -> Result<(), NoMemory>
+    requires shape { IsShape shaped.now }
+    requires each { length choices.now ≡ length shaped.now.flow.links }
+    ensures { OnOk result (text.new ≡ text.old ++ link_lines shaped.now choices.now) }
+{
+    for link in 0..choices.len() {
+        put_link_of(alloc, text, shaped, choices, link)?;
+    }
+    Ok(())
+}
+
+fn nodes_line(alloc: Global, nodes: u32) -> Result<String, AllocError>
+    ensures { IfOk result (λ text. string_bytes text ≡ nodes_line nodes) }
+{
+    format!(in alloc; "score nodes {nodes}\n")
+}
+
+fn players_line(alloc: Global, players: u32) -> Result<String, AllocError>
+    ensures { IfOk result (λ text. string_bytes text ≡ players_line players) }
+{
+    format!(in alloc; "players {players}\n")
+}
+
+/// The score of a flow with this number of players: a line for the nodes, for each operator, for
+/// each link and for the players.
+pub fn score_text(
+    alloc: Global,
+    shaped: &Shaped,
+    choices: &[Choice],
+    nodes: u32,
+    players: u32,
+) -> Result<Bytes, NoMemory>
+    requires shape { IsShape shaped.now }
+    requires each { length choices.now ≡ length shaped.now.flow.links }
+    requires players { Seats shaped.now choices.now nodes players }
+    ensures { IfOk result (λ text. text ≡ score_text shaped.now choices.now nodes) }
+{
+    let mut text = Bytes::new(alloc);
+    put(&mut text, nodes_line(alloc, nodes)?.as_str())?;
+    put_ops(alloc, &mut text, shaped, nodes)?;
+    put_links(alloc, &mut text, shaped, choices)?;
+    put(&mut text, players_line(alloc, players)?.as_str())?;
+    Ok(text)
 }
