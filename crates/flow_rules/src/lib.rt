@@ -3,6 +3,12 @@
 
 pub mod laws;
 mod need;
+mod carry;
+mod outline;
+mod places;
+mod rows;
+mod sorts;
+
 mod verdict;
 
 pub use need::Need;
