@@ -4,10 +4,12 @@ pub mod Entries
 pub mod Given
 pub mod Keys
 pub mod Labels
+pub mod Listing
 pub mod Marks
 pub mod Numbers
 pub mod Orders
 pub mod Places
 pub mod Same
+pub mod Sound
 pub mod Steps
 pub mod Stuck

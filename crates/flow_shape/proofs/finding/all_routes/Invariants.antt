@@ -1,0 +1,7 @@
+use Rattle.std.proofs.Common.{◌≡◌, map}
+use Rattle.std.specs.List.{range_with_len}
+use Rattle.flow_shape.specs.Refusals.{chart_of, written_at}
+use Rattle.flow_shape.proofs.finding.all_routes.Given as goal
+
+abbrev pub invariant-loop-link : goal.invariant-loop-link
+invariant-loop-link l = l.routes.items ≡ map (written_at (chart_of l.flow l.schemas)) (range_with_len 0 l.link)
