@@ -1,12 +1,15 @@
-pub mod Firsts
 pub mod Causing
 pub mod Entries
+pub mod Firsts
+pub mod Fitting
 pub mod Given
+pub mod Holding
 pub mod Keys
 pub mod Labels
 pub mod Listing
 pub mod Marks
 pub mod Numbers
+pub mod Ordering
 pub mod Orders
 pub mod Places
 pub mod Same

@@ -33,15 +33,14 @@ fn ordered(alloc: Global, flow: &Flow) -> Result<Vec<u32>, ShapeFault>
             op,
         });
     }
-    let count = flow.ops.as_slice().len() as u32;
-    let links = flow.links.as_slice();
-    if let Some(op) = lowest_on_cycle(alloc, count, links)? {
+    if let Some(op) = lowest_on_cycle(alloc, flow)? {
         return Err(ShapeFault::Bad {
             why: ShapeWhy::Cycle,
             op,
         });
     }
-    Ok(order(alloc, count, links)?)
+    let count = flow.ops.as_slice().len() as u32;
+    Ok(order(alloc, count, flow.links.as_slice())?)
 }
 
 /// The schemas of a flow whose written names don't clash, in the order of its operators.
