@@ -2,6 +2,7 @@ pub mod Causing
 pub mod Entries
 pub mod Firsts
 pub mod Fitting
+pub mod Found
 pub mod Given
 pub mod Holding
 pub mod Keys

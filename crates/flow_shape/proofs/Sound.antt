@@ -39,7 +39,7 @@ pub range_at : (P : ℕ → Type 0) (a n i : ℕ) → AllByRecursion P (range_wi
 range_at P a zero i h low high = absurd (omega arith)
 range_at P a (suc n) i h low high = range_by (a == i) P a n i refl h low high (λ l k. range_at P (a + 1) n i h.1 l k)
 
-cause_parts : (flow : Flow) (schemas : List (List Field)) (o : ℕ) → operator_cause (chart_of flow schemas) o ≡ None
+pub cause_parts : (flow : Flow) (schemas : List (List Field)) (o : ℕ) → operator_cause (chart_of flow schemas) o ≡ None
     → (first_cause (map (input_cause (chart_of flow schemas) o) (filter (λ l. (get_or flow.links l no_link).to == o) (range_with_len 0 (length flow.links)))) ≡ None)
     × (first_cause (option_causes (get_or flow.ops o no_op).kind (inputs_at (chart_of flow schemas) o) ++ output_causes (get_or flow.ops o no_op).kind (inputs_at (chart_of flow schemas) o)) ≡ None)
 cause_parts flow schemas o e = none_both (map (input_cause (chart_of flow schemas) o) (filter (λ l. (get_or flow.links l no_link).to == o) (range_with_len 0 (length flow.links)))) _ e
