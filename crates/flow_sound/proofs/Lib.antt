@@ -2,3 +2,4 @@ pub mod Members
 pub mod Order
 pub mod Meaning
 pub mod Fitting
+pub mod Keeping

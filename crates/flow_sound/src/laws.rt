@@ -1,7 +1,7 @@
 //! The laws of flows of the operators that are built. Each function's contract is its law, and
 //! calling it does nothing.
 
-ghost use Rattle.flow_sound.specs.Promise.{HasMeaning, HasOneMeaning, FormsFit, OperatorsFit};
+ghost use Rattle.flow_sound.specs.Promise.{HasMeaning, HasOneMeaning, FormsFit, OperatorsFit, AcceptedRunsKeep};
 
 /// A shaped flow has one meaning: the whole list on each link.
 pub fn flows_mean()
@@ -14,4 +14,11 @@ pub fn flows_mean()
 pub fn operators_fit()
     ensures forms { FormsFit }
     ensures shapes { OperatorsFit }
+{}
+
+/// A legal run of an accepted flow keeps what the flow means: on each link the state holds and as
+/// many rows were put as the meaning has, the faults are the meaning's, and each export has of the
+/// meaning what the grade of its link says.
+pub fn accepted_runs_keep()
+    ensures { AcceptedRunsKeep }
 {}
