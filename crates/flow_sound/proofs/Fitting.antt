@@ -25,6 +25,7 @@ use Rattle.flow_graph.proofs.RowShapes.{copy_shape, sink_shape}
 use Rattle.flow_rules.specs.Verdicts.{node_at, nodes_of, out_at, written_or_same}
 use Rattle.flow_shape.specs.Options.{first_fields, import_fields, line_fields, output_fields}
 use Rattle.flow_shape.specs.Refusals.{Fits, fields_at, inputs_at, kind_at}
+use Rattle.flow_sound.specs.Fitting.{RowsFit}
 use Rattle.flow_sound.specs.Kinds.{IsOfKind, LineFits}
 use Rattle.flow_sound.specs.Promise.{FormsFit, OperatorsFit, ShapedFlow}
 use Rattle.flow_sound.proofs.Members.{below_all}
@@ -36,9 +37,6 @@ fits_long [] [] e = refl
 fits_long [] (v ∷ r) e = cc
 fits_long (f ∷ fields) [] e = cc
 fits_long (f ∷ fields) (v ∷ r) e = ap suc (fits_long fields r (both_true (fits_field f v) (row_fits fields r) e).1)
-
-abbrev pub RowsFit : List Field → List Row → Type 0
-RowsFit fields rows = AllByRecursion (λ (r : Row). row_fits fields r ≡ true) rows
 
 -- what an import gives fits the fields of that output
 line_fits : (schema : List Field) (rejects : Bool) (line : Line) (q : ℕ) → LineFits schema line → RowsFit (import_fields schema q) (line_rows q rejects line)

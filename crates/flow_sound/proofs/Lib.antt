@@ -3,3 +3,5 @@ pub mod Order
 pub mod Meaning
 pub mod Fitting
 pub mod Keeping
+pub mod Tallying
+pub mod RowsFitting

@@ -1,7 +1,9 @@
 //! The laws of flows of the operators that are built. Each function's contract is its law, and
 //! calling it does nothing.
 
+ghost use Rattle.flow_sound.specs.Fitting.{ExportsFit, MeaningFits};
 ghost use Rattle.flow_sound.specs.Promise.{HasMeaning, HasOneMeaning, FormsFit, OperatorsFit, AcceptedRunsKeep};
+ghost use Rattle.flow_sound.specs.Tallies.{ExportIsTallied, MeaningIsTallied, RunIsTallied};
 
 /// A shaped flow has one meaning: the whole list on each link.
 pub fn flows_mean()
@@ -21,4 +23,18 @@ pub fn operators_fit()
 /// meaning what the grade of its link says.
 pub fn accepted_runs_keep()
     ensures { AcceptedRunsKeep }
+{}
+
+/// The faults of the meaning are those of its imports and exports, counted by the numbers of the
+/// operators; those of exports are found in the rows of a run as in the whole.
+pub fn faults_are_tallied()
+    ensures meaning { MeaningIsTallied }
+    ensures run { RunIsTallied }
+    ensures export { ExportIsTallied }
+{}
+
+/// Rows fit the schema of their link: those of the meaning, and those that come at exports.
+pub fn rows_fit_schemas()
+    ensures meaning { MeaningFits }
+    ensures exports { ExportsFit }
 {}
