@@ -1,33 +1,31 @@
 -- Operators of the kinds that a shaped flow names are such as the law of flows asks.
-use Rattle.std.proofs.Common.{◌≡◌, ℕ, zero, suc, ◌<◌, Bool, true, false, cond, ◌&&◌, List, [], ◌∷◌, map, get_or, refl, sym, ap, ◌∙◌, subst, arith, length, flat_map, Option, Some, None}
+use Rattle.std.proofs.Common.{◌≡◌, ℕ, zero, suc, ◌<◌, Bool, true, false, cond, List, [], ◌∷◌, map, get_or, refl, sym, ap, ◌∙◌, subst, length, flat_map, Option, Some, None}
 use Rattle.std.specs.List.{AllByRecursion}
 use Rattle.ds_schema.specs.declared.key.Key.{Key}
 use Rattle.ds_schema.specs.declared.schema.Field.{Field}
 use Rattle.ds_schema.specs.Schemas.{fits_field, row_fits}
-use Rattle.op_base.specs.declared.fault.Fault.{Fault}
 use Rattle.op_base.specs.Columns.{IsIn, Row}
-use Rattle.op_base.specs.Keyed.{get_keys}
 use Rattle.op_base.specs.Meanings.{Line, good, bad, line_rows}
-use Rattle.op_base.specs.RowOperators.{copy_rule, sink_rule}
+use Rattle.op_base.specs.RowOperators.{copy_rule}
 use Rattle.op_base.proofs.All.{all_append, all_map, both_true, map_two}
 use Rattle.flow_graph.specs.declared.op_kind.OpKind.{OpKind}
 use Rattle.flow_graph.specs.declared.op_kind.OpKind.TheVariants as kind
 use Rattle.flow_graph.specs.declared.parts.Stored.{Stored}
 use Rattle.flow_graph.specs.declared.route.Route.{Route}
 use Rattle.flow_graph.specs.declared.route.Route.TheVariants as route
-use Rattle.flow_graph.specs.Charts.{Chart, cols_at, first_width, form_at, into_seq, keys_at, kind_form, link_at, links_from, links_into, op_at, width_at}
-use Rattle.flow_graph.specs.FlowShape.{FormPorts, IsShape, OpFits, WrittenFits}
+use Rattle.flow_graph.specs.Charts.{Chart, cols_at, first_width, into_seq, keys_at, kind_form, link_at, links_into, op_at, width_at}
+use Rattle.flow_graph.specs.FlowShape.{FormPorts, WrittenFits}
 use Rattle.flow_graph.specs.Forms.{form}
-use Rattle.flow_graph.specs.Operators.{Op, import, by_row, tsort, remdup}
-use Rattle.flow_graph.specs.Runs.{FitsShape, Node, Out, RouteFits}
+use Rattle.flow_graph.specs.Operators.{Op}
+use Rattle.flow_graph.specs.Runs.{FitsShape, Out, RouteFits}
 use Rattle.flow_graph.specs.Shapes.{FitsPorts, HasPort, IsShaped, KeysDistinct, RowShape, Wide}
 use Rattle.flow_graph.proofs.RowShapes.{copy_shape, sink_shape}
-use Rattle.flow_rules.specs.Verdicts.{node_at, nodes_of, out_at, written_or_same}
+use Rattle.flow_rules.specs.Verdicts.{node_at, written_or_same}
 use Rattle.flow_shape.specs.Options.{first_fields, import_fields, line_fields, output_fields}
 use Rattle.flow_shape.specs.Refusals.{Fits, fields_at, inputs_at, kind_at}
 use Rattle.flow_sound.specs.Fitting.{RowsFit}
 use Rattle.flow_sound.specs.Kinds.{IsOfKind, LineFits}
-use Rattle.flow_sound.specs.Promise.{FormsFit, OperatorsFit, ShapedFlow}
+use Rattle.flow_sound.specs.Promise.{FormsFit, OperatorsFit}
 use Rattle.flow_sound.proofs.Members.{below_all}
 use Rattle.flow_sound.proofs.Order.{all_nodes, all_outs, leaves_it}
 
@@ -111,8 +109,7 @@ operators_fit flow dict c ops s = all_nodes (FitsShape (width_at c)) c ops node
         let b = below_all (length c.flow.ops) o c.order s.shape.order.once i in
         let ports = (s.shape.ops o b).inputs in
         let suits = kind_suits (op_at c o).kind (keys_at c o) (ops o) (cols_at c o) (get_or c.stored o None) (first_width c o) (length (links_into c o)) (inputs_at c o) (s.kinds o b) ports in
-        let widths = map_two (fields_at c) length (links_into c o) in
-        (
+        let widths = map_two (fields_at c) length (links_into c o) in (
           λ q. length (output_fields (kind_at c o) (inputs_at c o) q),
           subst (λ ws. IsShaped (ops o) ws (λ q. length (output_fields (kind_at c o) (inputs_at c o) q))) widths suits.0,
           suits.1,

@@ -1,27 +1,25 @@
 -- A legal run of an accepted flow keeps what the flow means.
-use Rattle.std.proofs.Common.{◌≡◌, ℕ, zero, suc, ◌<◌, Bool, List, [], ◌∷◌, map, get_or, inl, refl, sym, ap, ◌∙◌, subst, arith, length, IsPermutation, Option, None}
+use Rattle.std.proofs.Common.{◌≡◌, ℕ, ◌<◌, Bool, List, [], ◌∷◌, map, get_or, inl, refl, sym, subst, arith, length, IsPermutation, Option, None}
 use Rattle.std.specs.List.{AllByRecursion, range_with_len}
 use Rattle.ds_schema.specs.declared.key.Key.{Key}
 use Rattle.op_base.specs.declared.fault.Fault.{Fault}
 use Rattle.op_base.specs.Columns.{IsIn, Row}
 use Rattle.op_base.specs.Lists.{joined}
-use Rattle.op_base.specs.RowOperators.{RowRule, sink_rule}
+use Rattle.op_base.specs.RowOperators.{sink_rule}
 use Rattle.flow_graph.specs.declared.op_kind.OpKind.{OpKind}
 use Rattle.flow_graph.specs.declared.op_kind.OpKind.TheVariants as kind
 use Rattle.flow_graph.specs.declared.parts.Stored.{Stored}
 use Rattle.flow_graph.specs.declared.route.Choice.{Choice}
 use Rattle.flow_graph.specs.declared.state.State.{State}
 use Rattle.flow_graph.specs.declared.flow.Flow.{Flow}
-use Rattle.flow_graph.specs.Charts.{Chart, cols_at, first_width, keys_at, kind_form, link_at, links_from, links_into, op_at, width_at}
+use Rattle.flow_graph.specs.Charts.{Chart, cols_at, first_width, keys_at, kind_form, link_at, links_into, op_at, width_at}
 use Rattle.flow_graph.specs.FlowShape.{FormPorts, IsShape}
 use Rattle.flow_graph.specs.Forms.{form}
-use Rattle.flow_graph.specs.Grades.{grade, Meets}
 use Rattle.flow_graph.specs.Operators.{Op, by_row, faults}
-use Rattle.flow_graph.specs.Runs.{InsertedFrom, Lists, Node, Out, meant_faults, run_faults}
-use Rattle.flow_rules.specs.declared.verdict.Verdict.TheVariants.{Accepted}
+use Rattle.flow_graph.specs.Runs.{InsertedFrom, Lists, Node, Out}
 use Rattle.flow_rules.specs.Needs.{missed}
 use Rattle.flow_rules.specs.Soundness.{Accepted as MissesNothing, Keeps, Sound}
-use Rattle.flow_rules.specs.Verdicts.{FormsAre, choice_at, node_at, nodes_of, out_at, state_at}
+use Rattle.flow_rules.specs.Verdicts.{FormsAre, nodes_of, state_at}
 use Rattle.flow_graph.specs.Parts.{Bag}
 use Rattle.flow_rules.proofs.Acceptance.{needs_met}
 use Rattle.flow_rules.proofs.Ends.{sink_meets}
@@ -29,7 +27,7 @@ use Rattle.flow_rules.proofs.FlowAll.{faults_all, flow_all}
 use Rattle.flow_rules.proofs.LawProofs.{sinks_meet}
 use Rattle.flow_rules.proofs.VerdictLaws.{accepted_derives, accepted_inserts, accepted_meets}
 use Rattle.flow_sound.specs.Kinds.{IsExport, IsOfKind, first_into}
-use Rattle.flow_sound.specs.Promise.{AcceptedRun, AcceptedRunsKeep, KeepsMeaning, ShapedFlow, sort_at}
+use Rattle.flow_sound.specs.Promise.{AcceptedRun, AcceptedRunsKeep, ShapedFlow, sort_at}
 use Rattle.flow_sound.proofs.Fitting.{forms_fit, operators_fit}
 use Rattle.flow_sound.proofs.Members.{below_all, in_all}
 use Rattle.flow_sound.proofs.Order.{enters_it, goes_forward, is_from, node_has, out_has, producer_in}

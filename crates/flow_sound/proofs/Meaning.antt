@@ -1,13 +1,11 @@
 -- A shaped flow has one meaning.
-use Rattle.std.proofs.Common.{◌≡◌, ℕ, zero, suc, ◌+◌, ◌<◌, ◌≤◌, ◌⊎◌, inl, inr, List, [], ◌∷◌, map, refl, sym, ap, ◌∙◌, subst, arith, length}
-use Rattle.std.specs.List.{AllByRecursion}
+use Rattle.std.proofs.Common.{◌≡◌, ℕ, zero, suc, ◌+◌, ◌<◌, ◌≤◌, inl, inr, List, [], ◌∷◌, map, refl, sym, ap, ◌∙◌, subst, arith, length}
 use Rattle.op_base.specs.Columns.{IsIn, Row}
 use Rattle.op_base.proofs.ColumnLaws.{in_range}
 use Rattle.flow_graph.specs.Charts.{Chart, link_at, all_links, links_into, links_from}
 use Rattle.flow_graph.specs.FlowShape.{IsShape}
 use Rattle.flow_graph.specs.Operators.{Op, result}
 use Rattle.flow_graph.specs.Runs.{Means, Out}
-use Rattle.flow_rules.specs.Verdicts.{node_at, nodes_of, out_at}
 use Rattle.flow_sound.specs.Promise.{HasMeaning, HasOneMeaning}
 use Rattle.flow_sound.proofs.Members.{same_map}
 use Rattle.flow_sound.proofs.Order.{all_nodes, all_outs, along_order, leaves_it, node_has, out_has}

@@ -1,8 +1,8 @@
 -- The links of a shaped flow along its order: each leaves an operator of the order, and comes from before the operators that it leads into.
-use Rattle.std.proofs.Common.{◌≡◌, ℕ, ◌+◌, ◌<◌, ◌==◌, Bool, true, ◌⊎◌, inl, inr, List, [], ◌∷◌, ◌++◌, map, refl, sym, ap, ap₂, ◌∙◌, subst, arith, length}
-use Rattle.std.specs.List.{AllByRecursion, range_with_len}
+use Rattle.std.proofs.Common.{◌≡◌, ℕ, ◌+◌, ◌<◌, ◌==◌, true, ◌⊎◌, inl, inr, List, [], ◌∷◌, ◌++◌, map, refl, sym, ap, subst, arith, length}
+use Rattle.std.specs.List.{AllByRecursion}
 use Rattle.std.proofs.lemmas.Bool.Decides.{nat_tests}
-use Rattle.op_base.specs.Columns.{IsIn, Lies}
+use Rattle.op_base.specs.Columns.{IsIn}
 use Rattle.op_base.proofs.ColumnLaws.{in_range}
 use Rattle.flow_graph.specs.Charts.{Chart, link_at, all_links, links_into, links_from}
 use Rattle.flow_graph.specs.FlowShape.{IsShape, ForwardOrder}

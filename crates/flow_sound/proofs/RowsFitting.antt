@@ -1,6 +1,5 @@
 -- What operators give of rows that fit, fits.
-use Rattle.std.proofs.Common.{◌≡◌, ℕ, ◌<◌, true, inl, refl, List, [], ◌∷◌, map, sym, ap, ◌∙◌, subst, length, flat_map}
-use Rattle.std.specs.List.{AllByRecursion}
+use Rattle.std.proofs.Common.{◌≡◌, ℕ, true, inl, refl, List, [], ◌∷◌, map, sym, subst, length, flat_map}
 use Rattle.ds_schema.specs.declared.key.Key.{Key}
 use Rattle.ds_schema.specs.declared.schema.Field.{Field}
 use Rattle.ds_schema.specs.Schemas.{row_fits}
@@ -12,7 +11,7 @@ use Rattle.op_base.proofs.KeySorts.{one_row_all}
 use Rattle.op_base.proofs.RowLists.{by_key_all}
 use Rattle.flow_graph.specs.declared.op_kind.OpKind.{OpKind}
 use Rattle.flow_graph.specs.declared.op_kind.OpKind.TheVariants as kind
-use Rattle.flow_graph.specs.Charts.{Chart, keys_at, link_at, links_from, links_into, op_at}
+use Rattle.flow_graph.specs.Charts.{keys_at, link_at, links_from, links_into, op_at}
 use Rattle.flow_graph.specs.Operators.{Op, result}
 use Rattle.flow_graph.specs.Runs.{Means, Out}
 use Rattle.flow_graph.proofs.PartLaws.{parts_all}

@@ -1,15 +1,14 @@
 -- The faults of a flow are those of its imports and exports, in whatever order they are counted.
-use Rattle.std.proofs.Common.{◌≡◌, ℕ, zero, suc, ◌+◌, ◌<◌, ◌==◌, Bool, true, cond, inl, inr, List, [], ◌∷◌, ◌++◌, append-nil, append_assoc, count_by, map, refl, sym, ap, ap₂, ◌∙◌, subst, arith, length, flat_map, get_or, Option, None, IsPermutation}
-use Rattle.std.specs.List.{AllByRecursion, range_with_len}
+use Rattle.std.proofs.Common.{◌≡◌, ℕ, ◌+◌, ◌==◌, true, cond, inl, inr, List, [], ◌∷◌, ◌++◌, append-nil, append_assoc, count_by, map, refl, sym, ap, ◌∙◌, subst, arith, length, flat_map, get_or, Option, None, IsPermutation}
 use Rattle.std.proofs.lemmas.Bool.Decides.{nat_tests}
 use Rattle.std.proofs.lemmas.Grind.{flat_map-append}
 use Rattle.std.proofs.lemmas.List.Folds.{flat_map-map}
-use Rattle.std.proofs.lemmas.List.Sorted.{IsPermutation-append, IsPermutation-append_comm, IsPermutation-append_left, IsPermutation-append_right, IsPermutation-refl, IsPermutation-sym, IsPermutation-trans}
+use Rattle.std.proofs.lemmas.List.Sorted.{IsPermutation-append, IsPermutation-append_comm, IsPermutation-append_left, IsPermutation-append_right, IsPermutation-refl, IsPermutation-trans}
 use Rattle.ds_schema.specs.declared.key.Key.{Key}
 use Rattle.op_base.specs.declared.fault.Fault.{Fault}
 use Rattle.op_base.specs.Columns.{IsIn, Row}
 use Rattle.op_base.specs.Lists.{joined}
-use Rattle.op_base.specs.RowOperators.{copy_rule, sink_rule}
+use Rattle.op_base.specs.RowOperators.{copy_rule}
 use Rattle.op_base.proofs.All.{flat_agree_all}
 use Rattle.op_base.proofs.ColumnLaws.{in_bounds}
 use Rattle.op_base.proofs.Bags.{count-append, count-cons, count-permutation, split_at}
@@ -17,16 +16,14 @@ use Rattle.op_base.proofs.RowLists.{flat_rows_permuted}
 use Rattle.flow_graph.specs.declared.op_kind.OpKind.{OpKind}
 use Rattle.flow_graph.specs.declared.op_kind.OpKind.TheVariants as kind
 use Rattle.flow_graph.specs.declared.parts.Stored.{Stored}
-use Rattle.flow_graph.specs.declared.flow.Flow.{Flow}
-use Rattle.flow_graph.specs.Charts.{Chart, cols_at, first_width, keys_at, kind_form, links_into, op_at}
+use Rattle.flow_graph.specs.Charts.{cols_at, first_width, keys_at, kind_form, links_into, op_at}
 use Rattle.flow_graph.specs.FlowShape.{FormPorts}
-use Rattle.flow_graph.specs.Operators.{Op, by_row, faults, import, remdup, tsort}
+use Rattle.flow_graph.specs.Operators.{Op, faults, import}
 use Rattle.flow_graph.specs.Runs.{Node, meant_faults}
 use Rattle.flow_rules.specs.Verdicts.{node_at, nodes_of}
 use Rattle.flow_shape.specs.Refusals.{all_ops}
 use Rattle.flow_sound.specs.Kinds.{IsExport, IsOfKind, first_into}
-use Rattle.flow_sound.specs.Promise.{AcceptedRun, ShapedFlow}
-use Rattle.flow_sound.specs.Tallies.{ExportIsTallied, MeaningIsTallied, RunIsTallied, faults_read, faults_written, if_export, if_import, tallied}
+use Rattle.flow_sound.specs.Tallies.{ExportIsTallied, MeaningIsTallied, PartitionsAreTallied, RunIsTallied, faults_read, faults_written, if_export, if_import, tallied}
 use Rattle.flow_sound.proofs.Keeping.{export_bag, export_is, one_link}
 use Rattle.flow_sound.proofs.Members.{all_of, below_all}
 
@@ -146,3 +143,7 @@ run_tallied regains flow dict c states choices ops whole run a =
         let upper = bounds.1 in
         if_exports (op_at c o).kind (faults (ops o) (joined (run.got (first_into c o)) ∷ [])) (faults (ops o) (whole (first_into c o) ∷ []))
         (export_tallied regains flow dict c states choices ops whole run a o (omega arith))
+
+pub partitions_tallied : PartitionsAreTallied
+partitions_tallied unwritable [] = refl
+partitions_tallied unwritable (rows ∷ parts) = ap (λ found. flat_map unwritable rows ++ found) (partitions_tallied unwritable parts) ∙ sym (flat_map-append unwritable rows (joined parts))

@@ -1,5 +1,5 @@
 -- Operators as their kinds say, with what the files leave open: the lines of an import, and the rows that an export can't write.
-use Rattle.std.specs.Prelude.{◌≡◌, ◌<◌, ℕ, Bool, true, List, [], ◌∷◌, length, get_or, ⊤}
+use Rattle.std.specs.Prelude.{◌≡◌, ◌<◌, ℕ, true, List, length, get_or, ⊤}
 use Rattle.std.specs.List.{AllByRecursion}
 use Rattle.ds_schema.specs.declared.key.Key.{Key}
 use Rattle.ds_schema.specs.declared.schema.Field.{Field}

@@ -1,10 +1,11 @@
 -- The faults of a flow, counted operator by operator: those of its imports, then those of its exports.
-use Rattle.std.specs.Prelude.{ℕ, ◌<◌, Bool, List, [], ◌∷◌, ◌++◌, length}
+use Rattle.std.specs.Prelude.{◌≡◌, ℕ, ◌<◌, Bool, List, [], ◌∷◌, ◌++◌, length}
 use Rattle.std.specs.List.{flat_map}
 use Rattle.std.specs.List.Sorted.{IsPermutation}
 use Rattle.op_base.specs.declared.fault.Fault.{Fault}
 use Rattle.op_base.specs.Columns.{Row}
 use Rattle.op_base.specs.Lists.{joined}
+use Rattle.op_base.specs.RowOperators.{sink_rule}
 use Rattle.flow_graph.specs.declared.flow.Flow.{Flow}
 use Rattle.flow_graph.specs.declared.op_kind.OpKind.{OpKind}
 use Rattle.flow_graph.specs.declared.op_kind.OpKind.TheVariants as kind
@@ -12,7 +13,7 @@ use Rattle.flow_graph.specs.declared.parts.Stored.{Stored}
 use Rattle.flow_graph.specs.declared.route.Choice.{Choice}
 use Rattle.flow_graph.specs.declared.state.State.{State}
 use Rattle.flow_graph.specs.Charts.{Chart, op_at}
-use Rattle.flow_graph.specs.Operators.{Op, faults}
+use Rattle.flow_graph.specs.Operators.{Op, by_row, faults}
 use Rattle.flow_graph.specs.Runs.{Lists, meant_faults}
 use Rattle.flow_rules.specs.Verdicts.{nodes_of}
 use Rattle.flow_shape.specs.Refusals.{all_ops}
@@ -52,3 +53,7 @@ RunIsTallied = (regains : Bool) (flow : Flow) (dict : List Stored) (c : Chart) (
 abbrev pub ExportIsTallied : Type 0
 ExportIsTallied = (regains : Bool) (flow : Flow) (dict : List Stored) (c : Chart) (states : List State) (choices : List Choice) (ops : ℕ → Op) (whole : ℕ → List Row) (run : Lists) → AcceptedRun regains flow dict c states choices ops whole run →
     (o : ℕ) → o < length c.flow.ops → IsExport (op_at c o).kind → IsPermutation (faults (ops o) (joined (run.got (first_into c o)) ∷ [])) (faults (ops o) (whole (first_into c o) ∷ []))
+
+-- Those of the partitions of an export, one after the other, are those of all its rows.
+abbrev pub PartitionsAreTallied : Type 0
+PartitionsAreTallied = (unwritable : Row → List Fault) (parts : List (List Row)) → flat_map (λ rows. faults (by_row (sink_rule unwritable)) (rows ∷ [])) parts ≡ faults (by_row (sink_rule unwritable)) (joined parts ∷ [])

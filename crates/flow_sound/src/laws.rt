@@ -3,7 +3,7 @@
 
 ghost use Rattle.flow_sound.specs.Fitting.{ExportsFit, MeaningFits};
 ghost use Rattle.flow_sound.specs.Promise.{HasMeaning, HasOneMeaning, FormsFit, OperatorsFit, AcceptedRunsKeep};
-ghost use Rattle.flow_sound.specs.Tallies.{ExportIsTallied, MeaningIsTallied, RunIsTallied};
+ghost use Rattle.flow_sound.specs.Tallies.{ExportIsTallied, MeaningIsTallied, PartitionsAreTallied, RunIsTallied};
 
 /// A shaped flow has one meaning: the whole list on each link.
 pub fn flows_mean()
@@ -31,6 +31,7 @@ pub fn faults_are_tallied()
     ensures meaning { MeaningIsTallied }
     ensures run { RunIsTallied }
     ensures export { ExportIsTallied }
+    ensures partitions { PartitionsAreTallied }
 {}
 
 /// Rows fit the schema of their link: those of the meaning, and those that come at exports.
