@@ -1,13 +1,12 @@
 -- A shaped flow has one meaning.
 use Rattle.std.proofs.Common.{◌≡◌, ℕ, zero, suc, ◌+◌, ◌<◌, ◌≤◌, inl, inr, List, [], ◌∷◌, map, refl, sym, ap, ◌∙◌, subst, arith, length}
 use Rattle.op_base.specs.Columns.{IsIn, Row}
-use Rattle.op_base.proofs.ColumnLaws.{in_range}
 use Rattle.flow_graph.specs.Charts.{Chart, link_at, all_links, links_into, links_from}
 use Rattle.flow_graph.specs.FlowShape.{IsShape}
 use Rattle.flow_graph.specs.Operators.{Op, result}
 use Rattle.flow_graph.specs.Runs.{Means, Out}
 use Rattle.flow_sound.specs.Promise.{HasMeaning, HasOneMeaning}
-use Rattle.flow_sound.proofs.Members.{same_map}
+use Rattle.flow_sound.proofs.Members.{below_range, range_has, same_map}
 use Rattle.flow_sound.proofs.Order.{all_nodes, all_outs, along_order, leaves_it, node_has, out_has}
 
 -- what a link's producer gives on it, by those of the links into that one, n operators back
@@ -46,7 +45,7 @@ each_settles : (c : Chart) (ops : ℕ → Op) → IsShape c → (l : ℕ) → l 
 each_settles c ops s = along_order (λ l. (k : ℕ) × Settles (within c ops) k l) c s (λ o i h l j. let k = all_settle (within c ops) (links_into c o) h in (suc k.0, settles_next c ops o k.0 l (leaves_it c o l j).0 k.1))
 
 all_links_settle : (c : Chart) (ops : ℕ → Op) → IsShape c → (k : ℕ) × ((l : ℕ) → IsIn l (all_links c) → Settles (within c ops) k l)
-all_links_settle c ops s = all_settle (within c ops) (all_links c) (λ l i. each_settles c ops s l (let b = Rattle.op_base.proofs.ColumnLaws.in_bounds l 0 (length c.flow.links) i in let d = b.1 in omega arith))
+all_links_settle c ops s = all_settle (within c ops) (all_links c) (λ l i. each_settles c ops s l (below_range (length c.flow.links) l i))
 
 pub has_meaning : HasMeaning
 has_meaning c ops s = (whole, all_nodes (Means whole) c ops (λ o i. all_outs (λ (q : Out). whole q.link ≡ result (ops o) q.port (map whole (links_into c o))) c o (means o)))
@@ -60,7 +59,7 @@ has_meaning c ops s = (whole, all_nodes (Means whole) c ops (λ o i. all_outs (�
     means : (o l : ℕ) → IsIn l (links_from c o) → whole l ≡ result (ops o) (link_at c l).out (map whole (links_into c o))
     means o l j =
         let from = leaves_it c o l j in
-        k.1 l (in_range l 0 (length c.flow.links) (omega arith) (let b = from.1 in omega arith)) k.0 (suc k.0) (omega arith) (omega arith)
+        k.1 l (range_has (length c.flow.links) l from.1) k.0 (suc k.0) (omega arith) (omega arith)
         ∙ one_more c ops k.0 l
         ∙ ap (λ p. result (ops p) (link_at c l).out (map whole (links_into c p))) from.0
 

@@ -40,12 +40,18 @@ in_filter p l (x ∷ xs) (inr i) e = later (p x) (in_filter p l xs i e)
 pub all_permuted : {X : Type 0} (P : X → Type 0) (xs ys : List X) → IsPermutation xs ys → AllByRecursion P xs → AllByRecursion P ys
 all_permuted P xs ys p h = recursion_from_All P ys (All-permutation P xs ys p (All-from_recursion P xs h))
 
+pub range_has : (n i : ℕ) → i < n → IsIn i (range_with_len 0 n)
+range_has n i l = in_range i 0 n (omega arith) (omega arith)
+
+pub below_range : (n i : ℕ) → IsIn i (range_with_len 0 n) → i < n
+below_range n i j = let bounds = in_bounds i 0 n j in let upper = bounds.1 in omega arith
+
 -- what is below n, in a list of all that is
 pub in_all : (n i : ℕ) (xs : List ℕ) → IsPermutation (range_with_len 0 n) xs → i < n → IsIn i xs
-in_all n i xs p l = at_in (λ k. IsIn k xs) i (range_with_len 0 n) (all_permuted (λ k. IsIn k xs) xs (range_with_len 0 n) (IsPermutation-sym (range_with_len 0 n) xs p) (lies_self xs)) (in_range i 0 n (omega arith) (omega arith))
+in_all n i xs p l = at_in (λ k. IsIn k xs) i (range_with_len 0 n) (all_permuted (λ k. IsIn k xs) xs (range_with_len 0 n) (IsPermutation-sym (range_with_len 0 n) xs p) (lies_self xs)) (range_has n i l)
 
 pub below_all : (n i : ℕ) (xs : List ℕ) → IsPermutation (range_with_len 0 n) xs → IsIn i xs → i < n
-below_all n i xs p j = at_in (λ k. k < n) i xs (all_permuted (λ k. k < n) (range_with_len 0 n) xs p (all_of (λ k. k < n) (range_with_len 0 n) (λ k m. let b = in_bounds k 0 n m in let c = b.1 in omega arith))) j
+below_all n i xs p j = at_in (λ k. k < n) i xs (all_permuted (λ k. k < n) (range_with_len 0 n) xs p (all_of (λ k. k < n) (range_with_len 0 n) (below_range n))) j
 
 pub all_mapped : {X Y : Type 0} (P : Y → Type 0) (g : X → Y) (xs : List X) → ((x : X) → IsIn x xs → P (g x)) → AllByRecursion P (map g xs)
 all_mapped P g [] h = tt

@@ -3,14 +3,13 @@ use Rattle.std.proofs.Common.{◌≡◌, ℕ, ◌+◌, ◌<◌, ◌==◌, true, 
 use Rattle.std.specs.List.{AllByRecursion}
 use Rattle.std.proofs.lemmas.Bool.Decides.{nat_tests}
 use Rattle.op_base.specs.Columns.{IsIn}
-use Rattle.op_base.proofs.ColumnLaws.{in_range}
 use Rattle.flow_graph.specs.Charts.{Chart, link_at, all_links, links_into, links_from}
 use Rattle.flow_graph.specs.FlowShape.{IsShape, ForwardOrder}
 use Rattle.flow_graph.specs.Operators.{Op}
 use Rattle.flow_graph.specs.Runs.{Node, Out, Forward, links}
 use Rattle.flow_rules.specs.Verdicts.{out_at, node_at, nodes_of}
 use Rattle.flow_rules.proofs.VerdictLaws.{marked}
-use Rattle.flow_sound.proofs.Members.{all_mapped, at_in, in_all, in_either, in_filter, of_mapped}
+use Rattle.flow_sound.proofs.Members.{all_mapped, at_in, in_all, in_either, in_filter, of_mapped, range_has}
 
 -- a link that leaves an operator, or leads into one
 pub leaves_it : (c : Chart) (o l : ℕ) → IsIn l (links_from c o) → ((link_at c l).from ≡ o) × (l < length c.flow.links)
@@ -27,7 +26,7 @@ itself : (n : ℕ) → (n == n) ≡ true
 itself n = grind (arith, nat_tests)
 
 pub is_from : (c : Chart) (l : ℕ) → l < length c.flow.links → IsIn l (links_from c (link_at c l).from)
-is_from c l h = in_filter (λ k. (link_at c k).from == (link_at c l).from) l (all_links c) (in_range l 0 (length c.flow.links) (omega arith) (omega arith)) (itself (link_at c l).from)
+is_from c l h = in_filter (λ k. (link_at c k).from == (link_at c l).from) l (all_links c) (range_has (length c.flow.links) l h) (itself (link_at c l).from)
 
 -- the producer of a link stands in the order
 pub producer_in : (c : Chart) → IsShape c → (l : ℕ) → l < length c.flow.links → IsIn (link_at c l).from c.order

@@ -8,9 +8,9 @@ use Rattle.ds_schema.specs.declared.key.Key.{Key}
 use Rattle.op_base.specs.declared.fault.Fault.{Fault}
 use Rattle.op_base.specs.Columns.{IsIn, Row}
 use Rattle.op_base.specs.Lists.{joined}
+use Rattle.op_base.specs.Meanings.{input}
 use Rattle.op_base.specs.RowOperators.{copy_rule}
 use Rattle.op_base.proofs.All.{flat_agree_all}
-use Rattle.op_base.proofs.ColumnLaws.{in_bounds}
 use Rattle.op_base.proofs.Bags.{count-append, count-cons, count-permutation, split_at}
 use Rattle.op_base.proofs.RowLists.{flat_rows_permuted}
 use Rattle.flow_graph.specs.declared.op_kind.OpKind.{OpKind}
@@ -25,7 +25,7 @@ use Rattle.flow_shape.specs.Refusals.{all_ops}
 use Rattle.flow_sound.specs.Kinds.{IsExport, IsOfKind, first_into}
 use Rattle.flow_sound.specs.Tallies.{ExportIsTallied, MeaningIsTallied, PartitionsAreTallied, RunIsTallied, faults_read, faults_written, if_export, if_import, tallied}
 use Rattle.flow_sound.proofs.Keeping.{export_bag, export_is, one_link}
-use Rattle.flow_sound.proofs.Members.{all_of, below_all}
+use Rattle.flow_sound.proofs.Members.{all_of, below_all, below_range}
 
 number_exact : (m n : ℕ) → (m == n) ≡ true → m ≡ n
 number_exact m n e = grind (arith, nat_tests)
@@ -94,7 +94,7 @@ op_faults (kind.Import file schema delim fixed reject) keys op columns stored wi
 op_faults (kind.Export file delim fixed) keys op columns stored width whole ls h p =
     ap (λ ks. faults op (map whole ks)) (one_link ls p)
 op_faults kind.Copy keys op columns stored width whole ls h p =
-    subst (λ (f : Op). faults f (map whole ls) ≡ []) (sym h) (copies_whole (Rattle.op_base.specs.Meanings.input 0 (map whole ls)))
+    subst (λ (f : Op). faults f (map whole ls) ≡ []) (sym h) (copies_whole (input 0 (map whole ls)))
 op_faults (kind.Tsort key) keys op columns stored width whole ls h p =
     subst (λ (f : Op). faults f (map whole ls) ≡ []) (sym h) refl
 op_faults (kind.Remdup key last) keys op columns stored width whole ls h p =
@@ -139,10 +139,8 @@ run_tallied regains flow dict c states choices ops whole run a =
   where
     written : (o : ℕ) → IsIn o (all_ops c) → IsPermutation (faults_written c ops (λ l. joined (run.got l)) o) (faults_written c ops whole o)
     written o i =
-        let bounds = in_bounds o 0 (length c.flow.ops) i in
-        let upper = bounds.1 in
         if_exports (op_at c o).kind (faults (ops o) (joined (run.got (first_into c o)) ∷ [])) (faults (ops o) (whole (first_into c o) ∷ []))
-        (export_tallied regains flow dict c states choices ops whole run a o (omega arith))
+        (export_tallied regains flow dict c states choices ops whole run a o (below_range (length c.flow.ops) o i))
 
 pub partitions_tallied : PartitionsAreTallied
 partitions_tallied unwritable [] = refl

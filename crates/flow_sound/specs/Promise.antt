@@ -42,11 +42,11 @@ FormsFit = (flow : Flow) (dict : List Stored) (c : Chart) (ops : ℕ → Op) →
 abbrev pub OperatorsFit : Type 0
 OperatorsFit = (flow : Flow) (dict : List Stored) (c : Chart) (ops : ℕ → Op) → ShapedFlow flow dict c ops → AllByRecursion (FitsShape (width_at c)) (nodes_of c ops)
 
--- an inserted sort
+-- the sort that is inserted on a link, if there is one
 abbrev pub sort_at : Chart → ℕ → Option (List Key)
 sort_at c l = (choice_at c l).sort
 
--- a flow that is accepted, what it means, and a legal run of it
+-- a flow that is accepted, by refining with regain or without, what it means, and a legal run of it
 pub record AcceptedRun (regains : Bool) (flow : Flow) (dict : List Stored) (c : Chart) (states : List State) (choices : List Choice) (ops : ℕ → Op) (whole : ℕ → List Row) (run : Lists) : Type 0 where
   pub shaped : ShapedFlow flow dict c ops
   pub verdict : IsVerdict regains c (Accepted states choices)

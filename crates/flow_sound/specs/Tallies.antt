@@ -20,6 +20,7 @@ use Rattle.flow_shape.specs.Refusals.{all_ops}
 use Rattle.flow_sound.specs.Kinds.{IsExport, first_into}
 use Rattle.flow_sound.specs.Promise.{AcceptedRun, ShapedFlow}
 
+-- what is found, where an operator is an import, or an export
 abbrev pub if_import : OpKind → List Fault → List Fault
 if_import (kind.Import file schema delim fixed reject) found = found
 if_import k found = []
