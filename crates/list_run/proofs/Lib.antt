@@ -4,3 +4,7 @@ pub mod Feeding
 pub mod Runs
 pub mod Places
 pub mod Routes
+pub mod Links
+pub mod Puts
+pub mod Inputs
+pub mod Steps

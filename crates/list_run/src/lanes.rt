@@ -7,7 +7,7 @@ ghost use Rattle.list_run.specs.Dealt.{Deals, dealt, turn_goes};
 ghost use Rattle.list_run.specs.Routed.{SuitsRoute, SuitsPlace, routed};
 
 use ds_place::{Place, partition_of};
-use ds_schema::Row;
+use ds_schema::{Row, copy_row};
 use ds_value::{Copied, Items, NoMemory};
 use flow_graph::Route;
 use std::alloc::Global;
@@ -23,6 +23,27 @@ fn append_rows(into: &mut Items<Row>, rows: Items<Row>) -> Result<(), NoMemory>
         into.push(row)?;
     }
     Ok(())
+}
+
+fn copy_rows(alloc: Global, rows: &Items<Row>) -> Result<Items<Row>, NoMemory>
+    ensures { IfOk result (λ copies. copies ≡ rows.now) }
+{
+    let mut copies = Items::new(alloc);
+    for row in rows.as_slice() {
+        copies.push(copy_row(alloc, row)?)?;
+    }
+    Ok(copies)
+}
+
+/// A copy of each row.
+pub(crate) fn copy_partitions(alloc: Global, lists: &Partitions) -> Result<Partitions, NoMemory>
+    ensures { IfOk result (λ copies. copies ≡ lists.now) }
+{
+    let mut copies = Items::new(alloc);
+    for rows in lists.as_slice() {
+        copies.push(copy_rows(alloc, rows)?)?;
+    }
+    Ok(copies)
 }
 
 /// All rows, partition by partition.
