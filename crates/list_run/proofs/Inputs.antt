@@ -7,7 +7,7 @@ use Rattle.flow_graph.specs.FlowShape.{IsShape, FormPorts}
 use Rattle.list_run.specs.Runnable.{first_into}
 use Rattle.list_run.proofs.Links.{in_into}
 
-first_member : (xs : List ℕ) → length xs ≡ 1 → IsIn (get_or xs 0 0) xs
+pub first_member : (xs : List ℕ) → length xs ≡ 1 → IsIn (get_or xs 0 0) xs
 first_member [] e = absurd (omega (arith, e))
 first_member (x ∷ xs) e = inl refl
 

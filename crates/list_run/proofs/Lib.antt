@@ -6,5 +6,10 @@ pub mod Places
 pub mod Routes
 pub mod Links
 pub mod Puts
+pub mod RowsKept
+pub mod Ordered
+pub mod Sizes
+pub mod Standing
+pub mod Legal
 pub mod Inputs
 pub mod Steps

@@ -4,3 +4,4 @@ pub mod Made
 pub mod Routed
 pub mod Runnable
 pub mod Held
+pub mod Turns

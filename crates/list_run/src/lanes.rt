@@ -57,11 +57,11 @@ pub(crate) fn join(alloc: Global, sent: Partitions) -> Result<Items<Row>, NoMemo
     Ok(all)
 }
 
-/// Partitions without rows.
-fn empty_partitions(alloc: Global, count: u32) -> Result<Vec<Items<Row>>, NoMemory>
+/// So many lists without members.
+pub(crate) fn empty_lists<T: Drop>(alloc: Global, count: usize) -> Result<Vec<Items<T>>, NoMemory>
     ensures { IfOk result (λ lists. lists.items ≡ replicate count []) }
 {
-    let mut lists = Vec::with_capacity(alloc, count as usize)?;
+    let mut lists = Vec::with_capacity(alloc, count)?;
     for _ in 0..count {
         lists.push(Items::new(alloc))?;
     }
@@ -104,7 +104,7 @@ pub(crate) fn round_robin(alloc: Global, sent: Partitions, count: u32) -> Result
     requires { 0 < count }
     ensures { IfOk result (λ got. got ≡ dealt (λ p t r. (p + t) % count) count sent) }
 {
-    let mut lists = empty_partitions(alloc, count)?;
+    let mut lists = empty_lists(alloc, count as usize)?;
     let mut first = 0;
     for rows in sent.into_vec() {
         deal_in_turn(first, rows, &mut lists, count)?;
@@ -133,7 +133,7 @@ fn by_place(alloc: Global, place: &Place, sent: Partitions, count: u32) -> Resul
     requires rows { All (All (SuitsPlace place.now)) sent }
     ensures { IfOk result (λ got. got ≡ dealt (λ p t r. place_number place.now r count) count sent) }
 {
-    let mut lists = empty_partitions(alloc, count)?;
+    let mut lists = empty_lists(alloc, count as usize)?;
     for rows in sent.into_vec() {
         deal_by_place(place, rows, &mut lists, count)?;
     }

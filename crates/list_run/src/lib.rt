@@ -11,3 +11,4 @@ pub mod work;
 
 pub use lanes::Partitions;
 pub use ran::Ran;
+pub use run::run_lists;

@@ -1,17 +1,20 @@
 //! Each operator in turn, over the lists of its partitions.
 
-ghost use Rattle.std.specs.Prelude.{◌≡◌, ◌<◌, ◌==◌, ◌∷◌, [], ℕ, List, true, false, cond, nat_lt, All, OnOk, MatchOption, length, map, get_or, set};
+ghost use Rattle.std.specs.Prelude.{◌≡◌, ◌<◌, ◌==◌, ◌∷◌, [], ℕ, List, true, false, cond, nat_lt, All, OnOk, IfOk, MatchOption, length, map, get_or, set};
 ghost use Rattle.op_base.specs.Columns.{Row as Cells};
 ghost use Rattle.flow_graph.specs.FlowShape.{IsShape};
 ghost use Rattle.flow_graph.specs.Charts.{all_links, link_at, into_seq, is_seq, op_at};
 ghost use Rattle.flow_rules.specs.Verdicts.{choice_at};
 ghost use Rattle.list_run.specs.Held.{HasRoom, MaySend, Moves, Puts, Steps, leaves, leaves_but, made_at, outputs, sent_on};
 ghost use Rattle.list_run.specs.Routed.{Joins, SuitsRoute};
-ghost use Rattle.list_run.specs.Runnable.{IsBuilt, degree_at, first_into, row_count};
+ghost use Rattle.list_run.specs.Runnable.{IsBuilt, IsRunOf, IsRunnable, OpsAre, degree_at, first_into, row_count};
+ghost use Rattle.list_run.specs.Turns.{Stands};
+ghost use Rattle.flow_graph.specs.Operators.{Op};
 
 use crate::delivery::{deliver, one_partition};
 use crate::held::{Held, take_at};
 use crate::lanes::{Partitions, copy_partitions};
+use crate::ran::Ran;
 use crate::work::work_on_each;
 use ds_schema::Row;
 use ds_value::{Items, NoMemory};
@@ -205,4 +208,36 @@ fn run_operator(alloc: Global, shaped: &Shaped, choices: &[Choice], nodes: u32, 
         }
         _ => unreachable!(),
     }
+}
+
+/// Each operator's turn, in the order of the flow.
+fn run_all(alloc: Global, shaped: &Shaped, choices: &[Choice], nodes: u32, sources: &mut Vec<Items<Row>>, held: &mut Held) -> Result<(), NoMemory>
+    requires runs { IsRunnable shaped.now choices.now nodes sources.old.items }
+    requires room { HasRoom shaped.now held.old }
+    ensures { OnOk result (Stands shaped.now nodes sources.old.items (length shaped.now.order) sources.new.items held.new) }
+{
+    for op in shaped.order() {
+        run_operator(alloc, shaped, choices, nodes, *op, sources, held)?;
+    }
+    Ok(())
+}
+
+/// Runs a flow over the rows that its imports put on their links, by link.
+pub fn run_lists(alloc: Global, shaped: &Shaped, choices: &[Choice], nodes: u32, sources: Items<Items<Row>>) -> Result<Ran, NoMemory>
+    requires { IsRunnable shaped.now choices.now nodes sources }
+    ensures { IfOk result (λ ran. (ops : ℕ → Op) → OpsAre shaped.now sources ops → IsRunOf shaped.now nodes ops ran) }
+{
+    let flow = shaped.flow();
+    let mut held = Held::new(alloc, flow.links.as_slice().len(), flow.ops.as_slice().len())?;
+    let mut sources = sources.into_vec();
+    run_all(alloc, shaped, choices, nodes, &mut sources, &mut held)?;
+    let Held {
+        waiting: _,
+        counts,
+        sinks,
+    } = held;
+    Ok(Ran {
+        counts: Items::from_vec(counts),
+        sinks: Items::from_vec(sinks),
+    })
 }
