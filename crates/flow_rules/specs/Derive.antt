@@ -258,6 +258,10 @@ abbrev pub set_if : Option (List ℕ) → Option (List ℕ)
 set_if None = None
 set_if (Some G) = Some (set_of G)
 
+-- a state with its agree set as a set
+abbrev pub settled : State → State
+settled s = record { agree = set_if s.agree; place = s.place; sort = s.sort }
+
 -- refining: all columns for none where there is a place, then, where that is asked for, regain; the agree set is a set
 abbrev pub refined_agree : Bool → ℕ → State → Option (List ℕ)
 refined_agree true width s = (regain (filled width s)).agree
