@@ -1,0 +1,4 @@
+pub mod Dealt
+pub mod Fed
+pub mod Made
+pub mod Routed
