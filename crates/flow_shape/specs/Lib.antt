@@ -1,3 +1,4 @@
+pub mod Answers
 pub mod Causes
 pub mod Files
 pub mod Giving
@@ -8,4 +9,5 @@ pub mod Naming
 pub mod Options
 pub mod Ports
 pub mod Refusals
+pub mod Spelled
 pub mod Widths

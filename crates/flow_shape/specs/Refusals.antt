@@ -1,5 +1,5 @@
 -- The shape of a flow, and what stands first where it has none.
-use Rattle.std.specs.Prelude.{ℕ, ◌≡◌, ◌<◌, ◌++◌, ◌⊎◌, Bool, List, [], ◌∷◌, length, map, get_or, find, Option, Some, None}
+use Rattle.std.specs.Prelude.{ℕ, ◌≡◌, ◌<◌, ◌++◌, ◌⊎◌, List, [], ◌∷◌, length, map, get_or, find, Option, Some, None}
 use Rattle.std.specs.List.{AllByRecursion, range_with_len}
 use Rattle.std.specs.Str.{bytes_eq}
 use Rattle.ds_schema.specs.declared.schema.Field.{Field}
@@ -11,6 +11,8 @@ use Rattle.flow_graph.specs.declared.op_kind.OpKind.TheVariants as kind
 use Rattle.flow_graph.specs.declared.parts.OpParts.{OpParts}
 use Rattle.flow_graph.specs.declared.parts.Stored.{Stored}
 use Rattle.flow_graph.specs.declared.route.Route.{Route}
+use Rattle.flow_shape.specs.declared.fault.ShapeFault.{ShapeFault}
+use Rattle.flow_shape.specs.declared.fault.ShapeFault.TheVariants as fault
 use Rattle.flow_shape.specs.declared.fault.ShapeWhy.{ShapeWhy}
 use Rattle.flow_shape.specs.declared.fault.ShapeWhy.TheVariants as why
 use Rattle.flow_shape.specs.Causes.{first_cause, IsLowest, HasNone}
@@ -67,6 +69,9 @@ abbrev pub stored_for : List Stored → OpKind → Option Stored
 stored_for dict (kind.Dsread ds) = find (λ (s : Stored). bytes_eq s.name ds) dict
 stored_for dict k = None
 
+abbrev pub stored_at : List Stored → Chart → ℕ → Option Stored
+stored_at dict c o = stored_for dict (kind_at c o)
+
 -- each link has a schema, and each operator fits
 pub record AllFit (c : Chart) : Type 0 where
   pub each_link : length c.schemas ≡ length c.flow.links
@@ -81,7 +86,7 @@ pub record IsShapeOf (flow : Flow) (dict : List Stored) (c : Chart) : Type 0 whe
   pub schemas : AllFit c
   pub parts : c.parts ≡ map (parts_at c) (all_ops c)
   pub written : c.written ≡ map (written_at c) (all_links c)
-  pub stored : c.stored ≡ map (λ o. stored_for dict (kind_at c o)) (all_ops c)
+  pub stored : c.stored ≡ map (stored_at dict c) (all_ops c)
   pub files : HasNone (length flow.ops) (Clashes flow.ops)
 
 -- the operators before this one in the order fit, and this is the first cause at it
@@ -103,3 +108,13 @@ Refuses flow cause o =
     ⊎ (((cause ≡ why.Cycle) × HasNone n (WrongPorts flow) × IsLowest n (OnCycle flow.links) o)
     ⊎ ((HasNone n (WrongPorts flow) × HasNone n (OnCycle flow.links) × FirstFault flow cause o)
     ⊎ ((cause ≡ why.Files) × HasNone n (WrongPorts flow) × HasNone n (OnCycle flow.links) × ((schemas : List (List Field)) × AllFit (chart_of flow schemas)) × IsLowest n (Clashes flow.ops) o)))
+
+-- a fault that isn't want of memory is the first of those that stand at an operator
+abbrev pub IsFirstFault : Flow → ShapeFault → Type 0
+IsFirstFault flow fault.Memory = Unit {0}
+IsFirstFault flow (fault.Bad cause o) = FirstFault flow cause o
+
+-- a fault that isn't want of memory is the first of the flow
+abbrev pub IsFirst : Flow → ShapeFault → Type 0
+IsFirst flow fault.Memory = Unit {0}
+IsFirst flow (fault.Bad cause o) = Refuses flow cause o

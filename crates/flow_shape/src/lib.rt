@@ -2,9 +2,12 @@
 //! operators; or its first fault.
 #![tactic(auto)]
 
+mod answers;
 mod cycle;
 mod fault;
 mod files;
+mod finding;
+mod giving;
 mod inputs;
 mod methods;
 mod naming;
@@ -14,7 +17,11 @@ mod outputs;
 mod ports;
 mod reading;
 mod sequence;
+mod shaping;
+mod typing;
 mod widths;
 
-pub use sequence::{one_order, ordered_is_free};
+pub use answers::one_answer;
 pub use fault::{ShapeFault, ShapeWhy};
+pub use sequence::{one_order, ordered_is_free};
+pub use shaping::shape;
