@@ -1,3 +1,4 @@
+pub mod ColumnSets
 pub mod PassingColumns
 pub mod Lanes
 pub mod Holders

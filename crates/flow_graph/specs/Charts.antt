@@ -66,11 +66,14 @@ is_seq mark.Stored = false
 abbrev pub into_seq : Chart → ℕ → Bool
 into_seq c l = is_seq (op_at c (link_at c l).to).mark
 
+abbrev pub no_parts : OpParts
+no_parts = record { keys = []; cols = [] }
+
 abbrev pub keys_at : Chart → ℕ → List (List Key)
-keys_at c o = (get_or c.parts o (record { keys = []; cols = [] })).keys
+keys_at c o = (get_or c.parts o no_parts).keys
 
 abbrev pub cols_at : Chart → ℕ → List ℕ
-cols_at c o = (get_or c.parts o (record { keys = []; cols = [] })).cols
+cols_at c o = (get_or c.parts o no_parts).cols
 
 -- the number of columns of input 0
 abbrev pub first_width : Chart → ℕ → ℕ

@@ -1,7 +1,8 @@
 -- Sets of columns, as the list of their members in order.
-use Rattle.std.specs.Prelude.{ℕ, Bool, false, List, get_or}
-use Rattle.std.specs.List.{filter, range_with_len}
+use Rattle.std.specs.Prelude.{ℕ, List}
+use Rattle.std.specs.Ordering.{nat_cmp}
+use Rattle.op_base.specs.Lists.{firsts}
 
--- the columns below 256 at which a test is set
-abbrev pub columns_where : List Bool → List ℕ
-columns_where holds = filter (λ c. get_or holds c false) (range_with_len 0 256)
+-- a list of columns as a set: each column once, in order
+abbrev pub set_of : List ℕ → List ℕ
+set_of cs = firsts nat_cmp cs

@@ -1,6 +1,7 @@
 pub mod Charts
 pub mod Columns
 pub mod Destinations
+pub mod FlowShape
 pub mod Forms
 pub mod Grades
 pub mod Laws

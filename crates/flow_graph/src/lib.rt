@@ -8,12 +8,14 @@ mod op_kind;
 mod parts;
 mod place;
 mod route;
+mod shaped;
 mod state;
 
-pub use columns::ColSet;
+pub use columns::{ColSet, columns_of, is_in, lies};
 pub use flow::{Flag, Flow, LinkSpec, Mark, Method, OpSpec};
 pub use op_kind::{AggSpec, OpKind, SetSpec};
 pub use parts::{OpParts, Stored};
 pub use place::Place;
 pub use route::{Choice, Route};
+pub use shaped::Shaped;
 pub use state::{Spot, State};

@@ -1,6 +1,6 @@
 use crate::Place;
 use ds_schema::{KeyList, Schema};
-use ds_value::{Items, Name};
+use ds_value::{Copied, Items, Name, NoMemory};
 
 /// What the shape of a flow says of an operator: a key list for each input, where it has a key;
 /// and the columns of the sets of a transform, the kept columns of a modify, the columns of a
@@ -11,6 +11,15 @@ pub struct OpParts {
     pub cols: Items<u32>,
 }
 
+impl Copied for OpParts {
+    fn copied(&self) -> Result<OpParts, NoMemory> {
+        Ok(OpParts {
+            keys: self.keys.copied()?,
+            cols: self.cols.copied()?,
+        })
+    }
+}
+
 /// What is known of a stored data set: its place, where its rows lie at one, and its partitions.
 #[derive(Debug, Drop)]
 pub struct Stored {
@@ -18,4 +27,15 @@ pub struct Stored {
     pub schema: Schema,
     pub place: Option<Place>,
     pub partitions: u32,
+}
+
+impl Copied for Stored {
+    fn copied(&self) -> Result<Stored, NoMemory> {
+        Ok(Stored {
+            name: self.name.copied()?,
+            schema: self.schema.copied()?,
+            place: Copied::copied(&self.place)?,
+            partitions: self.partitions,
+        })
+    }
 }

@@ -13,6 +13,9 @@ pub mod FeedOps
 pub mod PlaceFits
 pub mod Acceptance
 pub mod FlowAll
+pub mod CodeSteps
+pub mod Settled
+pub mod KeyLists
 pub mod Ends
 pub mod LawProofs
 pub mod Wrong

@@ -11,7 +11,8 @@ use Rattle.flow_rules.specs.declared.need.Need.{Need}
 use Rattle.flow_rules.specs.declared.verdict.Verdict.{Verdict}
 use Rattle.flow_rules.specs.declared.verdict.Verdict.TheVariants.{Accepted, Refused}
 use Rattle.flow_rules.specs.Derive.{derived, refined, routed_state, sorted_state, first_state}
-use Rattle.flow_rules.specs.Verdicts.{AreStates, IsAccepted, IsRefused, IsVerdict, ForwardOrder, CoversLinks, OneVerdict, state_at, choice_at, link_state, link_misses}
+use Rattle.flow_graph.specs.FlowShape.{ForwardOrder, CoversLinks}
+use Rattle.flow_rules.specs.Verdicts.{AreStates, IsAccepted, IsRefused, IsVerdict, OneVerdict, state_at, choice_at, link_state, link_misses}
 use Rattle.flow_rules.proofs.VerdictLaws.{marked}
 
 in_append : (l : ℕ) (xs ys : List ℕ) → IsIn l (xs ++ ys) → IsIn l xs ⊎ IsIn l ys

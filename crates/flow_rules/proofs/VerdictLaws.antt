@@ -13,7 +13,8 @@ use Rattle.flow_rules.specs.declared.need.Need.{Need}
 use Rattle.flow_rules.specs.Derive.{derived, refined, routed_state, sorted_state}
 use Rattle.flow_rules.specs.Needs.{missed, route_missed}
 use Rattle.flow_rules.specs.Soundness.{Derives, Accepted, output_state}
-use Rattle.flow_rules.specs.Verdicts.{IsAccepted, AreStates, PortsInOrder, FormsAre, state_at, choice_at, output_at, link_state, with_state, link_misses, out_at, node_at, nodes_of}
+use Rattle.flow_graph.specs.FlowShape.{PortsInOrder}
+use Rattle.flow_rules.specs.Verdicts.{IsAccepted, AreStates, FormsAre, state_at, choice_at, output_at, link_state, with_state, link_misses, out_at, node_at, nodes_of}
 use Rattle.op_base.proofs.KeyValues.{both_nothing, map_nothing}
 
 -- what a filter of numbers by one of their marks leaves

@@ -1,11 +1,10 @@
 -- What is known of an operator's outputs and of links: agree set, place and sort, through operators, routes and sorts, and refined.
 use Rattle.std.specs.Prelude.{ℕ, suc, Bool, true, false, cond, if◌then◌else◌, ◌&&◌, List, [], ◌∷◌, ◌++◌, map, Option, Some, None, ◌==◌}
-use Rattle.std.specs.Ordering.{nat_cmp}
 use Rattle.ds_schema.specs.declared.key.Key.{Key}
 use Rattle.ds_schema.specs.Rows.{cols}
 use Rattle.op_base.specs.Columns.{Pairs, Passing, everything, only, pairs_of, column_in, all_columns, is_in, lies}
 use Rattle.op_base.specs.Keyed.{get_keys, without}
-use Rattle.op_base.specs.Lists.{firsts}
+use Rattle.flow_graph.specs.Columns.{set_of}
 use Rattle.flow_graph.specs.declared.place.Place.{Place}
 use Rattle.flow_graph.specs.declared.place.Place.TheVariants.{Hash, Modulus}
 use Rattle.flow_graph.specs.declared.state.State.{State}
@@ -255,13 +254,13 @@ regained_if (Some G) place sort = Some (regained_set (place_columns place) G sor
 abbrev pub regain : State → State
 regain s = record { agree = regained_if s.agree s.place s.sort; place = s.place; sort = s.sort }
 
--- a list of columns as a set: each column once, in order
-abbrev pub set_of : List ℕ → List ℕ
-set_of cs = firsts nat_cmp cs
-
 abbrev pub set_if : Option (List ℕ) → Option (List ℕ)
 set_if None = None
 set_if (Some G) = Some (set_of G)
+
+-- a state with its agree set as a set
+abbrev pub settled : State → State
+settled s = record { agree = set_if s.agree; place = s.place; sort = s.sort }
 
 -- refining: all columns for none where there is a place, then, where that is asked for, regain; the agree set is a set
 abbrev pub refined_agree : Bool → ℕ → State → Option (List ℕ)

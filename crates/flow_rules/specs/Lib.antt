@@ -1,6 +1,7 @@
 pub mod Derive
 pub mod Laws
 pub mod Needs
+pub mod Outlines
 pub mod Soundness
 pub mod Verdicts
 pub mod WrongRules

@@ -6,6 +6,7 @@ use Rattle.flow_graph.specs.declared.route.Route.TheVariants as route
 use Rattle.flow_graph.specs.declared.route.Choice.{Choice}
 use Rattle.flow_graph.specs.declared.state.State.{State}
 use Rattle.flow_graph.specs.Charts.{Chart, link_at, all_links, width_at, links_into, links_from, into_seq, form_at}
+use Rattle.flow_graph.specs.FlowShape.{ForwardOrder, CoversLinks, PortsInOrder}
 use Rattle.flow_graph.specs.Forms.{form}
 use Rattle.flow_graph.specs.Operators.{Op}
 use Rattle.flow_graph.specs.Runs.{Out, Node, InsertedFrom}
@@ -84,10 +85,6 @@ node_at c ops o = record { number = o; op = ops o; ins = links_into c o; outs = 
 abbrev pub nodes_of : Chart → (ℕ → Op) → List Node
 nodes_of c ops = map (node_at c ops) c.order
 
--- the links into an operator stand in the order of its ports
-abbrev pub PortsInOrder : Chart → ℕ → Type 0
-PortsInOrder c o = (i : ℕ) → i < length (links_into c o) → (link_at c (get_or (links_into c o) i 0)).port ≡ i
-
 -- operators are such as the checker sees them
 abbrev pub FormsAre : Chart → (ℕ → Op) → Type 0
 FormsAre c ops = (o : ℕ) → IsIn o c.order → form (ops o) ≡ form_at c o
@@ -100,15 +97,6 @@ pub record AcceptedFlow (regains : Bool) (c : Chart) (states : List State) (ops 
 
 abbrev pub AcceptedIsSound : Type 0
 AcceptedIsSound = (regains : Bool) (c : Chart) (states : List State) (choices : List Choice) (ops : ℕ → Op) → IsVerdict regains c (Accepted states choices) → ((o : ℕ) → IsIn o c.order → PortsInOrder c o) → FormsAre c ops → AcceptedFlow regains c states ops
-
--- in the order of the operators, the links into each leave operators before it
-abbrev pub ForwardOrder : Chart → List ℕ → List ℕ → Type 0
-ForwardOrder c seen [] = ⊤
-ForwardOrder c seen (o ∷ order) = Lies (links_into c o) seen × ForwardOrder c (links_from c o ++ seen) order
-
--- the order has the producer of each link
-abbrev pub CoversLinks : Chart → Type 0
-CoversLinks c = (l : ℕ) → l < length c.flow.links → IsIn (link_at c l).from c.order
 
 -- A flow has one verdict.
 abbrev pub OneVerdict : Type 0

@@ -3,6 +3,14 @@
 
 pub mod laws;
 mod need;
+mod carry;
+mod outline;
+mod outputs;
+mod places;
+mod routes;
+mod rows;
+mod sorts;
+
 mod verdict;
 
 pub use need::Need;
