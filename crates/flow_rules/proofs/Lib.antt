@@ -23,3 +23,5 @@ pub mod StateExamples
 pub mod FlowExamples
 pub mod VerdictLaws
 pub mod OneVerdict
+pub mod Fills
+pub mod Refusals
