@@ -56,6 +56,13 @@ impl<'a> Cursor<'a> {
         self.rest.is_empty()
     }
 
+    /// The tokens that are left.
+    pub fn rest(&self) -> &'a [Lexeme<'a>]
+        ensures { lexemes result.now ≡ self.now }
+    {
+        self.rest
+    }
+
     /// The next token.
     pub fn peek(&self) -> Option<Lexeme<'a>>
         ensures { option_map lexeme result ≡ first_of self.now }

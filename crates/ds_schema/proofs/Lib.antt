@@ -10,3 +10,9 @@ pub mod Sizes
 pub mod RowOrders
 pub mod RowFits
 pub mod RowExamples
+pub mod NamedLists
+pub mod ListReaders
+pub mod NameReaders
+pub mod ListLoops
+pub mod ColumnLists
+pub mod ColumnsPrinted

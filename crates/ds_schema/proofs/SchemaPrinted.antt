@@ -30,7 +30,7 @@ use Rattle.ds_schema.specs.SchemaLaws.{SpellsText}
 use Rattle.ds_schema.proofs.SizeReaders.{digits_all}
 use Rattle.ds_schema.proofs.SchemaTexts.{spelled_text}
 
-narrow : (P : Phrase) (x : List ℕ) (A B : List ℕ → Type 0) → ((after : List ℕ) → B after → A after) → Prints Inner P x A → Prints Inner P x B
+pub narrow : (P : Phrase) (x : List ℕ) (A B : List ℕ → Type 0) → ((after : List ℕ) → B after → A after) → Prints Inner P x A → Prints Inner P x B
 narrow P x A B h p front after ts b l = p front after ts (h after b) l
 
 either_left : (P Q : Phrase) (x : List ℕ) (A : List ℕ → Type 0) → Prints Inner P x A → Prints Inner (P <|> Q) x A
@@ -44,7 +44,7 @@ bracket_opens = prints_sign Inner 91 (λ mode after f. by_mode (λ m. piece_at m
 bracket_closes : Prints Inner (word (codes "]")) (codes "]") (Ends 93)
 bracket_closes = prints_sign Inner 93 (λ mode after f. by_mode (λ m. piece_at m (93 ∷ after) ≡ Some (Part sort.Sign 1)) (rw f refl) (rw f refl) mode)
 
-comma : Prints Inner (word (codes ",")) (codes ",") (Ends 44)
+pub comma : Prints Inner (word (codes ",")) (codes ",") (Ends 44)
 comma = prints_sign Inner 44 (λ mode after f. by_mode (λ m. piece_at m (44 ∷ after) ≡ Some (Part sort.Sign 1)) (rw f refl) (rw f refl) mode)
 
 equals : Prints Inner (word (codes "=")) (codes "=") (Ends 61)
@@ -108,12 +108,12 @@ uint_prints bits h =
       ]
     ]
 
-and_none : (b : Bool) → (b && false) ≡ false
+pub and_none : (b : Bool) → (b && false) ≡ false
 and_none true = refl
 and_none false = refl
 
 -- a bracket makes no double sign
-ends_any : (b : ℕ) → ((c : ℕ) → is_double_sign b c ≡ false) → (after : List ℕ) → Ends b after
+pub ends_any : (b : ℕ) → ((c : ℕ) → is_double_sign b c ≡ false) → (after : List ℕ) → Ends b after
 ends_any b h [] = refl
 ends_any b h (c ∷ after) = h c
 

@@ -5,3 +5,7 @@ pub mod SchemaReading
 pub mod SchemaGrammar
 pub mod SchemaLaws
 pub mod RowLaws
+pub mod ColumnGrammar
+pub mod ColumnReading
+pub mod ColumnText
+pub mod ColumnLaws

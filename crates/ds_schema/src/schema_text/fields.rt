@@ -29,7 +29,8 @@ fn are_name_bytes(bytes: &[u8]) -> bool
     bytes.iter().all(|byte| is_opt_byte(*byte))
 }
 
-fn is_field_name(bytes: &[u8]) -> bool
+/// Whether a column may have this name: a letter or '_', then letters, digits and '_', at most 64 bytes.
+pub fn is_field_name(bytes: &[u8]) -> bool
     ensures { result ≡ is_field_name bytes.now }
 {
     bytes.len() <= 64 && begins_as_word(bytes) && are_name_bytes(bytes)

@@ -1,6 +1,6 @@
 //! Reading the type of a field.
 
-ghost use Rattle.std.specs.Prelude.{◌≡◌, ◌<◌, ◌≤◌, ◌^◌, Some, None, IfOk, if◌then◌else◌};
+ghost use Rattle.std.specs.Prelude.{◌≡◌, ◌≤◌, Some, None, IfOk, if◌then◌else◌};
 ghost use Rattle.std.specs.Str.Parse.{digits_value};
 ghost use Rattle.ds_lex.specs.Lexemes.{lexeme};
 ghost use Rattle.ds_lex.specs.Reading.{moved};
@@ -10,9 +10,8 @@ use crate::schema_text::fault::SchemaWhy;
 use ds_lex::{Cursor, Lexeme, Refusal, Sort, is_digit};
 use ds_value::Kind;
 
-/// A number from low to high, in digits alone.
-fn size_of(low: u32, high: u32, bytes: &[u8]) -> Option<u32>
-    requires { high < 2 ^ 24 }
+/// A number from low to high, in digits alone. Zeros may lead.
+pub fn size_of(low: u32, high: u32, bytes: &[u8]) -> Option<u32>
     ensures { result ≡ (if is_size low high bytes.now then Some (digits_value 10 bytes.now) else None) }
 {
     let mut value: u32 = 0;
@@ -20,10 +19,11 @@ fn size_of(low: u32, high: u32, bytes: &[u8]) -> Option<u32>
         if !is_digit(*byte) {
             return None;
         }
-        value = value * 10 + u32::from(*byte - b'0');
-        if high < value {
+        let more = u64::from(value) * 10 + u64::from(*byte - b'0');
+        if u64::from(high) < more {
             return None;
         }
+        value = more as u32;
     }
     if bytes.is_empty() || value < low {
         return None;
@@ -31,7 +31,7 @@ fn size_of(low: u32, high: u32, bytes: &[u8]) -> Option<u32>
     Some(value)
 }
 
-pub fn refuse(token: Lexeme<'_>, why: SchemaWhy) -> Refusal<SchemaWhy>
+pub fn refuse<W>(token: Lexeme<'_>, why: W) -> Refusal<W>
     ensures { result ≡ Refusal.At token.entry.at why }
 {
     Refusal::At { at: token.at, why }
@@ -39,7 +39,6 @@ pub fn refuse(token: Lexeme<'_>, why: SchemaWhy) -> Refusal<SchemaWhy>
 
 #[tactic(auto, unfolding(crate::specs::SchemaReading::size_at))]
 fn size(low: u32, high: u32, cursor: &mut Cursor<'_>) -> Result<u32, Refusal<SchemaWhy>>
-    requires { high < 2 ^ 24 }
     ensures read { moved result cursor.new ≡ size_at low high cursor.old }
     ensures bound { IfOk result (λ n. n ≤ high) }
 {

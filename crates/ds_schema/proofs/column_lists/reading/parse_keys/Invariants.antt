@@ -1,0 +1,10 @@
+use Rattle.std.proofs.Common.{◌≡◌, length}
+use Rattle.ds_schema.specs.ColumnReading.{key_at, more_at, keys_at}
+use Rattle.ds_schema.proofs.column_lists.reading.parse_keys.Given as goal
+
+-- what is left is read as all is
+abbrev pub invariant-loop-alloc : goal.invariant-loop-alloc
+invariant-loop-alloc g l = more_at (key_at l.why) l.keys.items l.cursor ≡ keys_at l.why l.fn.cursor
+
+abbrev pub decreases-loop-alloc : goal.decreases-loop-alloc
+decreases-loop-alloc g l = length l.cursor

@@ -1,0 +1,4 @@
+pub mod Texts
+pub mod Scores
+pub mod VerdictText
+pub mod Seating

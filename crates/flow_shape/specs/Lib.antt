@@ -1,0 +1,13 @@
+pub mod Answers
+pub mod Causes
+pub mod Files
+pub mod Giving
+pub mod Laws
+pub mod Links
+pub mod Methods
+pub mod Naming
+pub mod Options
+pub mod Ports
+pub mod Refusals
+pub mod Spelled
+pub mod Widths

@@ -1,0 +1,15 @@
+pub mod Ended
+pub mod Dealing
+pub mod Feeding
+pub mod Runs
+pub mod Places
+pub mod Routes
+pub mod Links
+pub mod Puts
+pub mod RowsKept
+pub mod Ordered
+pub mod Sizes
+pub mod Standing
+pub mod Legal
+pub mod Inputs
+pub mod Steps

@@ -1,0 +1,13 @@
+use Rattle.std.proofs.Common.{◌≡◌}
+use Rattle.streams.specs.Streams.{emits}
+use Rattle.op_base.specs.Emits.{Adds}
+use Rattle.list_run.specs.Fed.{row_feeds}
+use Rattle.list_run.proofs.whole.feed_all.Given as goal
+
+abbrev pub invariant-loop-row : goal.invariant-loop-row
+invariant-loop-row g l = record {
+  stream : g.O.Operator.stream l.op ≡ g.O.Operator.stream l.fn.op;
+  suits : g.O.Operator.suits l.op ≡ g.O.Operator.suits l.fn.op;
+  stands : g.O.Operator.Stands l.op (row_feeds l.yielded);
+  emits : Adds l.fn.emit l.emit (emits (g.O.Operator.stream l.fn.op) (row_feeds l.yielded));
+}

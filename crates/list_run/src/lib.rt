@@ -1,0 +1,14 @@
+//! A run of a flow in memory: each operator in turn, over the lists of its partitions.
+#![tactic(auto)]
+
+pub mod delivery;
+mod held;
+mod lanes;
+mod ran;
+mod run;
+mod whole;
+pub mod work;
+
+pub use lanes::Partitions;
+pub use ran::Ran;
+pub use run::run_lists;

@@ -1,0 +1,6 @@
+use Rattle.std.specs.Prelude.{IfOk}
+use Rattle.osh_value.proofs.Names.{found_name}
+use Rattle.osh_value.proofs.name.name_of.Goals as goal
+
+pub returns : goal.returns
+returns c = found_name _ _ c.from_bytes.ensures

@@ -1,0 +1,11 @@
+//! The values of options.
+#![tactic(auto)]
+
+mod lists;
+mod name;
+mod setting;
+mod value;
+
+pub use name::{content, name_of, owned_name, push};
+pub use setting::{Setting, kind_of};
+pub use value::{OptValue, value_of};
