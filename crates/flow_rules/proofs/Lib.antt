@@ -25,3 +25,4 @@ pub mod VerdictLaws
 pub mod OneVerdict
 pub mod Fills
 pub mod Refusals
+pub mod Routing

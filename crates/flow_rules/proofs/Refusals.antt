@@ -57,7 +57,7 @@ pub record NoneBelow (c : Chart) (n : ℕ) (states : List State) : Type 0 where
 pub none_first : (c : Chart) (states : List State) → NoneBelow c 0 states
 none_first c states = record { none = λ l m. absurd (omega arith) }
 
-split : (l n : ℕ) → l < n + 1 → (l < n) ⊎ (l ≡ n)
+pub split : (l n : ℕ) → l < n + 1 → (l < n) ⊎ (l ≡ n)
 split l n m = go (l == n) refl
   where
     go : (b : Bool) → (l == n) ≡ b → (l < n) ⊎ (l ≡ n)

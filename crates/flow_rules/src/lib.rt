@@ -9,6 +9,7 @@ mod needs;
 mod outline;
 mod outputs;
 mod places;
+mod routed;
 mod routes;
 mod rows;
 mod sorts;
@@ -17,4 +18,5 @@ mod verdict;
 
 pub use checker::{choices, infer};
 pub use need::Need;
+pub use routed::is_routed;
 pub use verdict::Verdict;

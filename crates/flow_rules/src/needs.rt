@@ -131,9 +131,11 @@ fn not_entire(alloc: Global) -> Result<Vec<Need>, NoMemory>
 fn remdup_needs(alloc: Global, keys: &KeyList) -> Result<Vec<Need>, NoMemory>
     ensures { IfOk result (λ parts. parts.items ≡ NotEntire ∷ (Agree keys.now ∷ (Sorted keys.now ∷ []))) }
 {
+    let agree = Need::Agree(keys.copied()?);
+    let sorted = Need::Sorted(keys.copied()?);
     let mut parts = not_entire(alloc)?;
-    parts.push(Need::Agree(keys.copied()?))?;
-    parts.push(Need::Sorted(keys.copied()?))?;
+    parts.push(agree)?;
+    parts.push(sorted)?;
     Ok(parts)
 }
 

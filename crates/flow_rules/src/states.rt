@@ -88,7 +88,7 @@ fn first_width(alloc: Global, shaped: &Shaped, op: u32) -> Result<u32, NoMemory>
 }
 
 /// Whether a link's consumer is sequential.
-fn into_seq(shaped: &Shaped, link: u32) -> bool
+pub(crate) fn into_seq(shaped: &Shaped, link: u32) -> bool
     requires { link < length shaped.now.flow.links }
     ensures { result ≡ into_seq shaped.now link }
 {
