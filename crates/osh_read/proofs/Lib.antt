@@ -1,0 +1,4 @@
+pub mod Repeats
+pub mod Stepping
+pub mod Joins
+pub mod Tokens
