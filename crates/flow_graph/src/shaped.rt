@@ -1,12 +1,13 @@
 ghost use Rattle.std.specs.Prelude.{◌≡◌, ◌<◌, length, get_or, option_copied, [], None};
 ghost use Rattle.flow_graph.specs.Charts.{no_parts};
+ghost use Rattle.flow_graph.specs.FlowShape.{IsShape};
 
 use crate::{Flow, OpParts, Route, Stored};
 use ds_schema::Schema;
 use ds_value::Items;
 use std::marker::Model;
 
-/// A flow with what was found of its shape. Only `shape` makes one.
+/// A flow with what was found of its shape.
 #[derive(Debug, Drop)]
 pub struct Shaped {
     flow: Flow,
@@ -19,14 +20,17 @@ pub struct Shaped {
 
 impl Model for Shaped {
     ghost use Rattle.flow_graph.specs.Charts.{Chart};
+    ghost use Rattle.flow_graph.specs.FlowShape.{IsShape};
 
     ghost Value = { Chart };
 
     ghost view = { λ s. record { flow = s.flow; schemas = s.schemas; parts = s.parts; written = s.written; order = s.order; stored = s.stored } };
+
+    ghost invariant = { λ s. IsShape (record { flow = s.flow; schemas = s.schemas; parts = s.parts; written = s.written; order = s.order; stored = s.stored }) };
 }
 
 impl Shaped {
-    pub(crate) fn new(
+    pub fn new(
         flow: Flow,
         schemas: Items<Schema>,
         parts: Items<OpParts>,
@@ -34,6 +38,7 @@ impl Shaped {
         order: Items<u32>,
         stored: Items<Option<Stored>>,
     ) -> Shaped
+        requires { IsShape (record { flow = flow; schemas = schemas; parts = parts; written = written; order = order; stored = stored }) }
         ensures { result ≡ record { flow = flow; schemas = schemas; parts = parts; written = written; order = order; stored = stored } }
     {
         Shaped {
@@ -44,6 +49,13 @@ impl Shaped {
             order,
             stored,
         }
+    }
+
+    /// Nothing is done: the contract says what each flow of this type keeps.
+    pub fn is_shaped(&self)
+        ensures { IsShape self.now }
+    {
+        let _ = &self.flow;
     }
 
     pub fn flow(&self) -> &Flow

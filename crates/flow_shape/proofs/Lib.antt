@@ -3,9 +3,11 @@ pub mod Causing
 pub mod Entries
 pub mod Given
 pub mod Keys
+pub mod Labels
 pub mod Marks
 pub mod Numbers
 pub mod Orders
 pub mod Places
 pub mod Same
+pub mod Steps
 pub mod Stuck

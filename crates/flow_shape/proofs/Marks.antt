@@ -38,7 +38,7 @@ pub or_right : (x y : Bool) → y ≡ true → (x || y) ≡ true
 or_right true y h = refl
 or_right false y h = h
 
-feeds_at : (links : List LinkSpec) (k : ℕ) (d : LinkSpec) → k < length links → feeds links (get_or links k d).from (get_or links k d).to ≡ true
+pub feeds_at : (links : List LinkSpec) (k : ℕ) (d : LinkSpec) → k < length links → feeds links (get_or links k d).from (get_or links k d).to ≡ true
 feeds_at [] k d h = absurd (omega arith)
 feeds_at (l ∷ links) zero d h = or_left (joins l.from l.to l) _ (same_joins l)
 feeds_at (l ∷ links) (suc k) d h = or_right (joins (get_or links k d).from (get_or links k d).to l) _ (feeds_at links k d (let e : k < length links = omega arith in e))

@@ -8,4 +8,5 @@ pub mod Naming
 pub mod Options
 pub mod Ports
 pub mod Refusals
+pub mod Spelled
 pub mod Widths

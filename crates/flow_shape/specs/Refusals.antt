@@ -11,6 +11,8 @@ use Rattle.flow_graph.specs.declared.op_kind.OpKind.TheVariants as kind
 use Rattle.flow_graph.specs.declared.parts.OpParts.{OpParts}
 use Rattle.flow_graph.specs.declared.parts.Stored.{Stored}
 use Rattle.flow_graph.specs.declared.route.Route.{Route}
+use Rattle.flow_shape.specs.declared.fault.ShapeFault.{ShapeFault}
+use Rattle.flow_shape.specs.declared.fault.ShapeFault.TheVariants as fault
 use Rattle.flow_shape.specs.declared.fault.ShapeWhy.{ShapeWhy}
 use Rattle.flow_shape.specs.declared.fault.ShapeWhy.TheVariants as why
 use Rattle.flow_shape.specs.Causes.{first_cause, IsLowest, HasNone}
@@ -103,3 +105,8 @@ Refuses flow cause o =
     ⊎ (((cause ≡ why.Cycle) × HasNone n (WrongPorts flow) × IsLowest n (OnCycle flow.links) o)
     ⊎ ((HasNone n (WrongPorts flow) × HasNone n (OnCycle flow.links) × FirstFault flow cause o)
     ⊎ ((cause ≡ why.Files) × HasNone n (WrongPorts flow) × HasNone n (OnCycle flow.links) × ((schemas : List (List Field)) × AllFit (chart_of flow schemas)) × IsLowest n (Clashes flow.ops) o)))
+
+-- a fault that isn't want of memory is the first of those that stand at an operator
+abbrev pub IsFirstFault : Flow → ShapeFault → Type 0
+IsFirstFault flow fault.Memory = Unit {0}
+IsFirstFault flow (fault.Bad cause o) = FirstFault flow cause o

@@ -1,3 +1,7 @@
+ghost use Rattle.std.specs.Prelude.{◌≡◌};
+
+use ds_value::NoMemory;
+
 /// What is wrong with the shape of a flow, in the order in which causes at one place count.
 #[derive(Clone, Copy, Debug, PartialEq, Eq)]
 pub enum ShapeWhy {
@@ -27,4 +31,14 @@ pub enum ShapeWhy {
 pub enum ShapeFault {
     Bad { why: ShapeWhy, op: u32 },
     Memory,
+}
+
+impl From<NoMemory> for ShapeFault {
+    ghost use Rattle.flow_shape.specs.declared.fault.ShapeFault.TheVariants as fault;
+
+    ghost from_gives = { λ _ made. made ≡ fault.Memory };
+
+    fn from(_: NoMemory) -> Self {
+        ShapeFault::Memory
+    }
 }

@@ -1,4 +1,4 @@
-ghost use Rattle.std.specs.Prelude.{◌≡◌, ◌<◌, ◌==◌, ◌^◌, [], cond, map, length, get_or, position, None, Some, IfSome};
+ghost use Rattle.std.specs.Prelude.{◌≡◌, ◌<◌, ◌≤◌, ◌==◌, ◌^◌, [], cond, map, length, get_or, position, None, Some, IfSome};
 ghost use Rattle.flow_graph.specs.Charts.{no_op, no_link, is_seq, links_into};
 ghost use Rattle.flow_shape.specs.Causes.{first_cause};
 ghost use Rattle.flow_shape.specs.Options.{first_fields};
@@ -20,7 +20,8 @@ pub fn first_into(links: &[LinkSpec], op: u32) -> Option<usize>
 
 /// The fields of input 0; none where there is no input.
 pub fn first_fields<'a>(flow: &Flow, schemas: &'a [Schema], op: u32) -> &'a [Field]
-    ensures { result.now ≡ first_fields (inputs_at (chart_of flow.now schemas.now) op) }
+    ensures fields { result.now ≡ first_fields (inputs_at (chart_of flow.now schemas.now) op) }
+    ensures few { length result.now ≤ 256 }
 {
     match first_into(flow.links.as_slice(), op) {
         Some(link) => fields_at(schemas, link),

@@ -5,6 +5,7 @@
 mod cycle;
 mod fault;
 mod files;
+mod giving;
 mod inputs;
 mod methods;
 mod naming;
@@ -14,6 +15,7 @@ mod outputs;
 mod ports;
 mod reading;
 mod sequence;
+mod typing;
 mod widths;
 
 pub use sequence::{one_order, ordered_is_free};

@@ -72,7 +72,7 @@ fn first_schema<'a>(flow: &Flow, schemas: &'a [Schema], op: u32) -> &'a Schema
 }
 
 /// The schema of a link, by what its producer gives.
-fn output_schema(
+pub fn output_schema(
     alloc: Global,
     flow: &Flow,
     schemas: &[Schema],

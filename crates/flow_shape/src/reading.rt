@@ -1,4 +1,4 @@
-ghost use Rattle.std.specs.Prelude.{◌≡◌, ◌<◌, [], length, get_or};
+ghost use Rattle.std.specs.Prelude.{◌≡◌, ◌<◌, ◌≤◌, [], length, get_or};
 ghost use Rattle.flow_graph.specs.Charts.{no_link, no_op};
 
 use ds_schema::{Field, Schema};
@@ -20,7 +20,8 @@ pub fn link_at(flow: &Flow, link: usize) -> &LinkSpec
 
 /// The fields of a link; none where its schema isn't known.
 pub fn fields_at(schemas: &[Schema], link: usize) -> &[Field]
-    ensures { result.now ≡ get_or schemas.now link [] }
+    ensures fields { result.now ≡ get_or schemas.now link [] }
+    ensures few { length result.now ≤ 256 }
 {
     match schemas.get(link) {
         Some(schema) => schema.as_slice(),

@@ -10,4 +10,4 @@ pub returns-in-Some : goal.returns-in-Some
 returns-in-Some c = cause_parts c.args.flow.now c.args.schemas.now c.args.op (Some c.in-Some.why) _ _ (known_at c.args.flow.now c.args.op c.requires.known c.requires.op) c.in-Some.ensures refl refl
 
 pub returns-in-None : goal.returns-in-None
-returns-in-None c = cause_parts c.args.flow.now c.args.schemas.now c.args.op None c.own_cause.result c.first_fields.result.now (known_at c.args.flow.now c.args.op c.requires.known c.requires.op) c.in-None.ensures c.first_fields.ensures (rw (← c.op_at.ensures) c.own_cause.ensures)
+returns-in-None c = cause_parts c.args.flow.now c.args.schemas.now c.args.op None c.own_cause.result c.first_fields.result.now (known_at c.args.flow.now c.args.op c.requires.known c.requires.op) c.in-None.ensures c.first_fields.ensures.fields (rw (← c.op_at.ensures) c.own_cause.ensures)
