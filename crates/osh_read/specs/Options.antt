@@ -149,10 +149,10 @@ abbrev pub operator_of : Option OpName → Lexeme → Result OpName (Refusal Osh
 operator_of None w = refuse w why.UnknownOperator
 operator_of (Some op) w = Ok op
 
--- the operator that was read; that its options lack none that it must have was seen ahead
-abbrev pub complete : Option OpKind → Lexeme → Result OpKind (Refusal OshWhy)
-complete None w = refuse w why.MissingOption
-complete (Some kind) w = Ok kind
+-- the operator that was read; it can lack an option only where the text is cut off here
+abbrev pub complete : Option OpKind → Result OpKind (Refusal OshWhy)
+complete None = Err refusal.AtEnd
+complete (Some kind) = Ok kind
 
 -- the word of an operator and its options; `before` operators stand before it
 unfoldable pub head_at : ℕ → Bool → List Lexeme → Read (OpName × OpKind)
@@ -162,5 +162,5 @@ head_at before cut ts = do
   all ← if is_missing op cut w.1 then refuse w.0 why.MissingOption else Ok op
   room ← if nat_le 200 before then refuse w.0 why.TooMany else Ok op
   s ← settings_at op cut w.1
-  kind ← complete (kind_of op s.0) w.0
+  kind ← complete (kind_of op s.0)
   Ok ((op, kind), s.1)

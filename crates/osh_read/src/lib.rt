@@ -12,3 +12,6 @@ mod token;
 
 pub use fault::{OshFault, OshWhy};
 pub use flow::read_flow;
+
+#[cfg(test)]
+mod tests;

@@ -231,18 +231,13 @@ fn is_missing(op: OpName, cut: bool, tokens: &[Lexeme<'_>]) -> bool
     lacks_option(op, tokens) && !(ends_ahead(tokens) && cut)
 }
 
-/// The operator that options say; the word is where an operator stands without one of its options.
-fn complete(
-    alloc: Global,
-    op: OpName,
-    settings: &Items<Setting>,
-    word: Lexeme<'_>,
-) -> Result<OpKind, Stop<OshWhy>>
-    ensures { Gives result (complete (kind_of op settings.now) (lexeme word.entry)) }
+/// The operator that options say. It can lack one only where the text is cut off behind them.
+fn complete(alloc: Global, op: OpName, settings: &Items<Setting>) -> Result<OpKind, Stop<OshWhy>>
+    ensures { Gives result (complete (kind_of op settings.now)) }
 {
     match kind_of(alloc, op, settings.as_slice()) {
         Ok(Some(kind)) => Ok(kind),
-        Ok(None) => Err(refuse(word, OshWhy::MissingOption)),
+        Ok(None) => Err(Stop::Refused(Refusal::AtEnd)),
         Err(NoMemory) => Err(Stop::Memory),
     }
 }
@@ -269,6 +264,6 @@ pub fn head(
         return Err(refuse(word, OshWhy::TooMany));
     }
     let settings = settings(alloc, op, cut, cursor)?;
-    let kind = complete(alloc, op, &settings, word)?;
+    let kind = complete(alloc, op, &settings)?;
     Ok((op, kind))
 }
