@@ -98,6 +98,11 @@ abbrev pub ColumnsLie : Chart → ℕ → OpKind → Type 0
 ColumnsLie c o (kind.Transform set reject) = (l : ℕ) → IsIn l (links_from c o) → (link_at c l).out ≡ 0 → Lies (cols_at c o) (all_columns (width_at c l))
 ColumnsLie c o k = Lies (cols_at c o) (all_columns (first_width c o))
 
+-- a modify keeps no more columns than a record may have
+abbrev pub FewKept : OpKind → List ℕ → Type 0
+FewKept (kind.Modify keep drop rename) columns = length columns ≤ 256
+FewKept k columns = ⊤
+
 -- an operator of the flow
 pub record OpFits (c : Chart) (o : ℕ) : Type 0 where
   pub ports : PortsInOrder c o
@@ -105,6 +110,7 @@ pub record OpFits (c : Chart) (o : ℕ) : Type 0 where
   pub keys : (i : ℕ) → i < length (links_into c o) → Lies (cols (get_keys (keys_at c o) i)) (all_columns (width_at c (get_or (links_into c o) i 0)))
   pub keys_differ : AllByRecursion KeysDiffer (keys_at c o)
   pub columns : ColumnsLie c o (op_at c o).kind
+  pub few_kept : FewKept (op_at c o).kind (cols_at c o)
 
 pub record IsShape (c : Chart) : Type 0 where
   pub few_ops : length c.flow.ops < 2 ^ 32

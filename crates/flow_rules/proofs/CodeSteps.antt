@@ -7,6 +7,7 @@ use Rattle.ds_schema.specs.Rows.{KeysDiffer, cols}
 use Rattle.ds_schema.specs.declared.key.Key.{Key}
 use Rattle.op_base.specs.Columns.{Pairs, column_in, is_in, pairs_of}
 use Rattle.op_base.specs.Keyed.{get_keys, without}
+use Rattle.op_base.specs.RowOperators.{not_set}
 use Rattle.flow_graph.specs.declared.state.Spot.{Spot}
 use Rattle.flow_graph.specs.declared.state.Spot.TheVariants as spot
 use Rattle.flow_graph.specs.declared.state.State.{State}
@@ -136,3 +137,6 @@ sets_more states xs G i d h e = ap (onto xs) (sets_from states i d h ∙ ap (λ 
 
 pub sets_none : (states : List State) (xs : List ℕ) (i : ℕ) (d : State) → i < length states → (get_or states i d).agree ≡ None → onto xs (agree_sets (drop i states)) ≡ None
 sets_none states xs i d h e = ap (onto xs) (sets_from states i d h ∙ ap (λ o. both_sets o (agree_sets (drop (i + 1) states))) e)
+
+pub not_set_step : (targets cs : List ℕ) (i : ℕ) → i < length cs → not_set targets (drop i cs) ≡ cond (cond (is_in (get_or cs i 0) targets) false true) (get_or cs i 0 ∷ not_set targets (drop (i + 1) cs)) (not_set targets (drop (i + 1) cs))
+not_set_step targets cs i h = ap (not_set targets) (from_place cs i 0 h)

@@ -1,13 +1,15 @@
 -- Key lists that are made of others name no column twice.
-use Rattle.std.proofs.Common.{Bool, List, None, Option, Some, ap, arith, cond, false, filter, get_or, length, not, refl, subst, suc, sym, true, ℕ, ◌+◌, ◌<◌, ◌≤◌, ◌||◌, ◌==◌, ◌≡◌, ◌∷◌, ◌++◌, ◌∙◌, []}
+use Rattle.std.proofs.Common.{Bool, List, None, Option, Some, ap, arith, cond, false, filter, get_or, length, not, refl, subst, suc, sym, true, zero, ℕ, ◌+◌, ◌<◌, ◌≤◌, ◌||◌, ◌==◌, ◌≡◌, ◌∷◌, ◌++◌, ◌∙◌, []}
 use Rattle.std.proofs.lemmas.Bool.Decides.{nat_tests}
 use Rattle.std.proofs.lemmas.Map.Steps.{length-le_from_distinct_below}
-use Rattle.std.specs.List.{AllByRecursion, IsDistinct, list_any}
+use Rattle.std.specs.List.{AllByRecursion, IsDistinct, list_any, range_with_len}
 use Rattle.std.specs.Prelude.{eqb}
 use Rattle.ds_schema.specs.Rows.{KeysDiffer, cols}
 use Rattle.ds_schema.specs.declared.key.Key.{Key}
-use Rattle.op_base.specs.Columns.{Pairs, column_in, is_in}
+use Rattle.op_base.specs.Columns.{Pairs, all_columns, column_in, everything, is_in, pairs_of}
 use Rattle.op_base.specs.Keyed.{without}
+use Rattle.op_base.specs.RowOperators.{not_set, transform_passes}
+use Rattle.flow_graph.specs.Charts.{main_passes}
 use Rattle.flow_rules.specs.Derive.{carried_sort, first_keys, key_if}
 use Rattle.flow_rules.specs.Outlines.{OutputsDiffer}
 
@@ -128,3 +130,56 @@ length_columns (k ∷ keys) = ap suc (length_columns keys)
 -- keys of different columns are no more than the numbers that columns may have
 pub few_keys : (keys : List Key) (xs : List ℕ) (n : ℕ) → KeysDiffer keys → xs ≡ cols keys → ((i : ℕ) → get_or xs i 0 < n) → length keys ≤ n
 few_keys keys xs n d e h = subst (λ m. m ≤ n) (length_columns keys) (length-le_from_distinct_below (cols keys) n (columns_distinct keys d) (all_below (cols keys) n (λ i. subst (λ ys. get_or ys i 0 < n) e (h i))))
+
+-- no number stands twice
+abbrev pub Apart : List ℕ → Type 0
+Apart [] = Unit {0}
+Apart (d ∷ ds) = AllByRecursion (λ e. d ≡ e → ⊥) ds × Apart ds
+
+pairs_apart : (d : ℕ) (cs ds : List ℕ) → AllByRecursion (λ e. d ≡ e → ⊥) ds → AllByRecursion (λ (f : ℕ × ℕ). d ≡ f.1 → ⊥) (pairs_of cs ds)
+pairs_apart d [] ds h = tt
+pairs_apart d (c ∷ cs) [] h = tt
+pairs_apart d (c ∷ cs) (e ∷ ds) h = (h.0, pairs_apart d cs ds h.1)
+
+pairs_differ : (cs ds : List ℕ) → Apart ds → OutputsDiffer (pairs_of cs ds)
+pairs_differ [] ds h = tt
+pairs_differ (c ∷ cs) [] h = tt
+pairs_differ (c ∷ cs) (d ∷ ds) h = (pairs_apart d cs ds h.0, pairs_differ cs ds h.1)
+
+range_above : (m a n : ℕ) → m < a → AllByRecursion (λ e. m ≡ e → ⊥) (range_with_len a n)
+range_above m a zero h = tt
+range_above m a (suc n) h = ((λ e. absurd (omega arith)), range_above m (a + 1) n (omega arith))
+
+range_apart : (a n : ℕ) → Apart (range_with_len a n)
+range_apart a zero = tt
+range_apart a (suc n) = (range_above a (a + 1) n (omega arith), range_apart (a + 1) n)
+
+all_filter : (p : ℕ → Bool) (P : ℕ → Type 0) (cs : List ℕ) → AllByRecursion P cs → AllByRecursion P (filter p cs)
+all_filter p P [] h = tt
+all_filter p P (c ∷ cs) h = go (p c) (all_filter p P cs h.1)
+  where
+    go : (b : Bool) → AllByRecursion P (filter p cs) → AllByRecursion P (cond b (c ∷ filter p cs) (filter p cs))
+    go true r = (h.0, r)
+    go false r = r
+
+filter_apart : (p : ℕ → Bool) (cs : List ℕ) → Apart cs → Apart (filter p cs)
+filter_apart p [] h = tt
+filter_apart p (c ∷ cs) h = go (p c) (filter_apart p cs h.1)
+  where
+    go : (b : Bool) → Apart (filter p cs) → Apart (cond b (c ∷ filter p cs) (filter p cs))
+    go true r = (all_filter p (λ e. c ≡ e → ⊥) cs h.0, r)
+    go false r = r
+
+pub left_differ : (m : Pairs) (targets : List ℕ) (w : ℕ) → m ≡ pairs_of (not_set targets (all_columns w)) (not_set targets (all_columns w)) → OutputsDiffer m
+left_differ m targets w e = subst OutputsDiffer (sym e) (pairs_differ (not_set targets (all_columns w)) (not_set targets (all_columns w)) (filter_apart (λ c. cond (is_in c targets) false true) (all_columns w) (range_apart 0 w)))
+
+pub kept_differ : (m : Pairs) (cs : List ℕ) (n : ℕ) → m ≡ pairs_of cs (all_columns n) → OutputsDiffer m
+kept_differ m cs n e = subst OutputsDiffer (sym e) (pairs_differ cs (all_columns n) (range_apart 0 n))
+
+pub later_transform : (width : ℕ) (targets : List ℕ) (q : ℕ) → (q ≡ 0 → ⊥) → transform_passes width targets q ≡ everything
+later_transform width targets zero h = absurd (h refl)
+later_transform width targets (suc q) h = refl
+
+pub later_lookup : (width q : ℕ) → (q ≡ 0 → ⊥) → main_passes width q ≡ everything
+later_lookup width zero h = absurd (h refl)
+later_lookup width (suc q) h = refl

@@ -5,7 +5,9 @@ pub mod laws;
 mod need;
 mod carry;
 mod outline;
+mod outputs;
 mod places;
+mod routes;
 mod rows;
 mod sorts;
 
