@@ -20,4 +20,5 @@ pub mod FeedLaws
 pub mod Feeding
 pub mod AtOnce
 pub mod Tags
+pub mod ListFeeds
 pub mod Examples

@@ -8,3 +8,4 @@ pub mod Meanings
 pub mod RowOperators
 pub mod Emits
 pub mod Standing
+pub mod WholeLists

@@ -68,10 +68,11 @@ impl Emit {
 mod tests {
     use super::*;
     use crate::FaultKind;
-    use ds_value::Bytes;
+    use ds_value::{Bytes, Copied};
+    use std::test::Fail;
 
     #[test]
-    fn rows_and_faults_add_up(rt: HostRuntime) {
+    fn rows_and_faults_add_up(rt: HostRuntime) -> Result<(), Fail> {
         let alloc = rt.alloc();
         let mut emit = Emit::new(alloc);
         let row = Row::from_vec(Vec::new(alloc));
@@ -91,7 +92,9 @@ mod tests {
         }
         assert_eq!(rt; emit.sent.as_slice().len(), 1);
         assert_eq!(rt; emit.faults, 4);
-        let least = emit.least.as_ref().map(|fault| (fault.kind, fault.place));
-        assert_eq!(rt; least, Some((FaultKind::Overflow, 4)));
+        let least = Copied::copied(&emit.least)?;
+        let seen = least.as_ref().map(|fault| (fault.kind, fault.place));
+        assert_eq!(rt; seen, Some((FaultKind::Overflow, 4)));
+        Ok(())
     }
 }

@@ -7,8 +7,10 @@ mod fault;
 pub mod laws;
 mod missing;
 mod operator;
+mod whole_list;
 
 pub use emit::{Emit, Sent};
 pub use fault::{Fault, FaultKind, fault_cmp};
 pub use missing::Missing;
 pub use operator::{Operator, Want};
+pub use whole_list::run_list;

@@ -1,13 +1,13 @@
 -- Where two rows' marks differ, the rows lie in that order.
 use Rattle.std.proofs.Common.{◌≡◌, ◌⊎◌, inl, inr, ℕ, zero, suc, ◌+◌, ◌-◌, ◌*◌, ◌^◌, ◌<◌, ◌≤◌, ◌==◌, min, ℤ, pos, negsuc, Bool, true, false, cond, refl, sym, ap, ap₂, ◌∙◌, subst, List, [], ◌∷◌, drop, get_or, arith}
-use Rattle.std.specs.Prelude.{int_lt, nat_lt, unsigned_abs, ◌+ℤ◌, neg_ℤ}
+use Rattle.std.specs.Prelude.{int_lt, unsigned_abs, ◌+ℤ◌}
 use Rattle.std.specs.Ordering.{nat_cmp, int_cmp, ordering_then, ordering_reverse}
 use Rattle.std.specs.Cmp.Lexicographic.{slice_cmp}
 use Rattle.std.specs.declared.cmp.Ordering.{Ordering}
 use Rattle.std.specs.declared.cmp.Ordering.TheVariants.{Less, Equal, Greater}
 use Rattle.std.proofs.lemmas.Bool.{lt-ltb, le-ltb}
 use Rattle.std.proofs.lemmas.Bool.Decides.{eqb_tells}
-use Rattle.streams.proofs.StreamLaws.{eq_true, eq_false}
+use Rattle.streams.proofs.StreamLaws.{eq_true}
 use Rattle.std.proofs.lemmas.Cmp.{nat_cmp_total}
 use Rattle.std.proofs.Math.Nat.{mul-le-mul_left, pow-suc}
 use Rattle.ds_value.specs.declared.value.Value.{Value}

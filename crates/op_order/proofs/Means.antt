@@ -1,7 +1,7 @@
 -- On sorted rows, what remdup gives is one row for each key value.
-use Rattle.std.proofs.Common.{◌≡◌, ℕ, Bool, true, false, cond, refl, sym, ap, ◌∙◌, List, [], ◌∷◌, ◌++◌, map, append-nil}
+use Rattle.std.proofs.Common.{◌≡◌, Bool, true, false, refl, sym, ap, ◌∙◌, List, [], ◌∷◌, ◌++◌, map}
 use Rattle.std.specs.List.{flat_map}
-use Rattle.streams.specs.Streams.{Out, sends, Gives}
+use Rattle.streams.specs.Streams.{Out, sends}
 use Rattle.streams.specs.Operators.{first_outs, last_outs}
 use Rattle.streams.specs.Lists.{runs_of}
 use Rattle.streams.proofs.OperatorLaws.{operators_give}
@@ -16,7 +16,7 @@ use Rattle.op_base.proofs.Orders.{row_total}
 use Rattle.op_base.proofs.KeyLaws.{by_key_ranks}
 use Rattle.op_base.proofs.RunLaws.{by_runs}
 use Rattle.op_base.proofs.SortedInputs.{by_key_arranged}
-use Rattle.op_order.specs.Ordered.{tsort_stream, same_key, remdup_stream}
+use Rattle.op_order.specs.Ordered.{same_key}
 use Rattle.op_order.specs.Laws.{TsortArranges, RemdupKeepsOne, RemdupSeesNoSort}
 
 pub tsort-arranges : TsortArranges

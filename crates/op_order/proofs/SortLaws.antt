@@ -1,20 +1,18 @@
 -- What a stable sort of marked rows leaves: the rows arranged by the keys.
-use Rattle.std.proofs.Common.{◌≡◌, Bool, true, false, cond, refl, sym, ap, ap₂, ◌∙◌, subst, List, [], ◌∷◌, ◌++◌}
+use Rattle.std.proofs.Common.{◌≡◌, Bool, true, false, cond, refl, sym, ap, ap₂, ◌∙◌, List, [], ◌∷◌, ◌++◌}
 use Rattle.std.specs.Cmp.{IsTotalOrder}
-use Rattle.std.specs.List.{AllByRecursion, filter, flat_map}
+use Rattle.std.specs.List.{filter, flat_map}
 use Rattle.std.specs.List.Sorted.{IsSorted, IsStable}
-use Rattle.std.specs.Ordering.{is_eq, nat_cmp}
+use Rattle.std.specs.Ordering.{is_eq}
 use Rattle.std.specs.declared.cmp.Ordering.{Ordering}
 use Rattle.std.specs.declared.cmp.Ordering.TheVariants.{Less, Equal, Greater}
 use Rattle.std.proofs.lemmas.Cmp.{nat_cmp_total, then_total, on_total}
 use Rattle.ds_schema.specs.declared.key.Key.{Key}
 use Rattle.ds_schema.specs.Rows.{row_cmp}
-use Rattle.op_base.specs.Columns.{Row}
 use Rattle.op_base.specs.Keyed.{arranged}
 use Rattle.op_base.specs.Lists.{put_at, with_rank, firsts}
 use Rattle.op_base.proofs.KeyLaws.{by_key_ranks}
 use Rattle.op_base.proofs.Orders.{row_total}
-use Rattle.op_base.proofs.Ranks.{for_ranks}
 use Rattle.op_base.proofs.Sorting.{stable_sort_is}
 use Rattle.op_order.specs.declared.marked.Marked.{Marked}
 use Rattle.op_order.specs.Marks.{key_mark, marked_cmp, AreMarked, rows_in}

@@ -1,21 +1,18 @@
 -- What one more feed makes tsort and remdup give, and what they keep.
-use Rattle.std.proofs.Common.{◌≡◌, ℕ, Bool, true, false, not, cond, refl, sym, ap, ap₂, ◌∙◌, subst, List, [], ◌∷◌, ◌++◌, map, append-nil, Option, Some, None}
+use Rattle.std.proofs.Common.{◌≡◌, ℕ, Bool, true, false, not, cond, refl, sym, ap, ap₂, ◌∙◌, subst, List, [], ◌∷◌, ◌++◌, map, Option, Some, None}
 use Rattle.std.specs.Prelude.{option_to_list}
-use Rattle.streams.specs.Streams.{row, end, Feed, Out, sends, Stream, ended, rows_of}
-use Rattle.streams.specs.Operators.{one_wanted, begins_run, last_run, ruled, remdup_outs, run_outs, last_outs}
-use Rattle.streams.specs.Lists.{runs_of}
+use Rattle.streams.specs.Streams.{row, end, Feed, Out, sends, ended, rows_of}
+use Rattle.streams.specs.Operators.{one_wanted, begins_run, last_outs}
 use Rattle.streams.proofs.RunLaws.{ruled-last}
 use Rattle.ds_schema.specs.declared.key.Key.{Key}
 use Rattle.op_base.specs.declared.fault.Fault.{Fault}
-use Rattle.op_base.specs.declared.emit.Emit.{Emit}
 use Rattle.op_base.specs.Columns.{Row}
 use Rattle.op_base.specs.Lists.{last_one}
-use Rattle.op_base.specs.Emits.{Adds}
 use Rattle.op_base.specs.Standing.{row_feed, end_feed}
-use Rattle.op_base.proofs.StandingLaws.{ended-row, ended-end, rows_of-row, rows_of-end, one_port_fed, one_port_open}
+use Rattle.op_base.proofs.StandingLaws.{ended-row, ended-end, rows_of-row, one_port_open}
 use Rattle.op_order.specs.declared.marked.Marked.{Marked}
 use Rattle.op_order.specs.Marks.{key_mark, AreMarked, rows_in}
-use Rattle.op_order.specs.Ordered.{tsort_stream, same_key, run_row, remdup_stream, TsortStands, RemdupStands, row_gain, end_gain}
+use Rattle.op_order.specs.Ordered.{same_key, run_row, TsortStands, RemdupStands, row_gain, end_gain}
 
 -- Tsort
 pub in-more : (rows : List Marked) (m : Marked) → rows_in (rows ++ m ∷ []) ≡ rows_in rows ++ m.row ∷ []

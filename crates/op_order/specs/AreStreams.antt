@@ -1,5 +1,5 @@
 -- Sorting and the removal of duplicates want their one port until it has ended.
-use Rattle.std.specs.Prelude.{◌≡◌, Bool, List}
+use Rattle.std.specs.Prelude.{Bool, List}
 use mathlib.Core.Path.{refl}
 use Rattle.streams.specs.Streams.{IsStream}
 use Rattle.streams.proofs.Collectors.{one_port}

@@ -2,8 +2,7 @@ ghost use Rattle.std.specs.Prelude.{◌≡◌, OnOk, []};
 ghost use Rattle.op_base.specs.Emits.{Adds};
 ghost use Rattle.op_order.specs.Ordered.{remdup_stream, row_gain, end_gain};
 
-use crate::compare::compare_rows;
-use ds_schema::{KeyList, Row, copy_row};
+use ds_schema::{KeyList, Row, compare_rows, copy_row};
 use ds_value::{Copied, NoMemory};
 use op_base::{Emit, Operator, Want};
 use std::alloc::Global;

@@ -1,7 +1,6 @@
 //! Sorting and the removal of duplicates.
 #![tactic(auto)]
 
-mod compare;
 mod deduplicator;
 pub mod laws;
 mod marked;
@@ -11,3 +10,6 @@ mod sorter;
 pub use deduplicator::Remdup;
 pub use orders::{remdup, tsort};
 pub use sorter::Tsort;
+
+#[cfg(test)]
+mod tests;

@@ -4,8 +4,7 @@ ghost use Rattle.ds_schema.specs.Rows.{at};
 ghost use Rattle.op_base.specs.Keyed.{arranged};
 ghost use Rattle.op_order.specs.Marks.{number_mark, next_digit, text_digits, content_mark, value_mark, key_mark, marked_cmp, AreMarked, rows_in};
 
-use crate::compare::{compare_rows, value_at};
-use ds_schema::{KeyList, Row};
+use ds_schema::{KeyList, Row, compare_rows};
 use ds_value::{NoMemory, Value};
 use std::cmp::Ordering;
 
@@ -73,6 +72,17 @@ fn value_mark(value: &Value) -> u64
         Value::Dec(n) => (3 << 61) + number_mark(*n),
         Value::Text(text) => (4 << 61) + text_mark(text.as_slice()),
         Value::Date(n) => (5 << 61) + number_mark(i128::from(*n)),
+    }
+}
+
+/// The value in a column, or null past the end.
+fn value_at<'a>(row: &'a Row, col: usize, null: &'a Value) -> &'a Value
+    requires { null.now ≡ Value.Null }
+    ensures { result.now ≡ at row.now col }
+{
+    match row.as_slice().get(col) {
+        Some(value) => value,
+        None => null,
     }
 }
 

@@ -1,4 +1,4 @@
-use Rattle.std.proofs.Common.{◌≡◌, ◌∷◌, [], map, ap, ◌∙◌, sym, subst, List, ◌++◌}
+use Rattle.std.proofs.Common.{◌∷◌, [], map, ap, ◌∙◌, sym, subst, List}
 use Rattle.streams.specs.Streams.{Out, sends}
 use Rattle.streams.proofs.StreamLaws.{map-append}
 use Rattle.op_base.specs.declared.fault.Fault.{Fault}

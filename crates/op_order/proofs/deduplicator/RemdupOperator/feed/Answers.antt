@@ -1,8 +1,6 @@
-use Rattle.std.proofs.Common.{◌≡◌, ap, sym, ◌∙◌, subst, List}
+use Rattle.std.proofs.Common.{ap, sym, ◌∙◌, subst}
 use Rattle.std.specs.Prelude.{option_to_list}
-use Rattle.streams.specs.Streams.{Out, rows_of}
-use Rattle.op_base.specs.declared.fault.Fault.{Fault}
-use Rattle.op_base.specs.Columns.{Row}
+use Rattle.streams.specs.Streams.{rows_of}
 use Rattle.op_base.specs.Emits.{Adds}
 use Rattle.op_base.proofs.StandingLaws.{one_port_fed}
 use Rattle.op_order.proofs.Standing.{RemdupStands-row, remdup_open, run_row-row}

@@ -1,4 +1,4 @@
-use Rattle.std.proofs.Common.{◌≡◌, ap, sym, ◌∙◌, subst, List, [], ◌∷◌, ◌++◌, true}
+use Rattle.std.proofs.Common.{ap, sym, ◌∙◌, subst, List, [], ◌∷◌, ◌++◌, true}
 use Rattle.op_base.specs.Standing.{end_feed}
 use Rattle.op_base.proofs.StandingLaws.{one_port_fed}
 use Rattle.op_order.specs.declared.marked.Marked.{Marked}

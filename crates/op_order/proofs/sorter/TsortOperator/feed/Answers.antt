@@ -1,4 +1,3 @@
-use Rattle.std.proofs.Common.{◌≡◌}
 use Rattle.op_base.proofs.StandingLaws.{one_port_fed}
 use Rattle.op_order.proofs.Standing.{TsortStands-row}
 use Rattle.op_order.proofs.sorter.TsortOperator.feed.Goals as goal
