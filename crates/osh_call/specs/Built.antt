@@ -49,20 +49,20 @@ is_prop flag.Set = false
 is_prop flag.Clear = false
 is_prop flag.Prop = true
 
--- by whether the producer and the consumer are sequential, and the consumer; a method may be left out between sequential ends where no sort is needed
-abbrev pub is_built_method : Bool → Bool → OpKind → Method → Bool
-is_built_method from to consumer method.Auto = from && (to && not (needs_sort consumer))
-is_built_method from to consumer method.Same = true
-is_built_method from to consumer method.RoundRobin = not to
-is_built_method from to consumer (method.Hash names) = true
-is_built_method from to consumer method.Any = true
-is_built_method from to consumer m = false
+-- by whether the producer and the consumer are sequential, and whether the consumer needs a sort; a method may be left out between sequential ends where none is needed
+abbrev pub is_built_method : Bool → Bool → Bool → Method → Bool
+is_built_method from to sorts method.Auto = from && (to && not sorts)
+is_built_method from to sorts method.Same = true
+is_built_method from to sorts method.RoundRobin = not to
+is_built_method from to sorts (method.Hash names) = true
+is_built_method from to sorts method.Any = true
+is_built_method from to sorts m = false
 
 abbrev pub op_in : List OpSpec → ℕ → OpSpec
 op_in ops o = get_or ops o no_op
 
 abbrev pub is_built_link : List OpSpec → LinkSpec → Bool
-is_built_link ops l = is_prop l.flag && is_built_method (is_seq (op_in ops l.from).mark) (is_seq (op_in ops l.to).mark) (op_in ops l.to).kind l.method
+is_built_link ops l = is_prop l.flag && is_built_method (is_seq (op_in ops l.from).mark) (is_seq (op_in ops l.to).mark) (needs_sort (op_in ops l.to).kind) l.method
 
 abbrev pub is_built : Flow → Bool
 is_built flow = (not flow.nopart && not flow.nosort) && (list_all (λ (o : OpSpec). is_built_op o.kind) flow.ops && list_all (is_built_link flow.ops) flow.links)

@@ -1,0 +1,6 @@
+//! What a call of the program comes to, stage by stage.
+#![tactic(auto)]
+
+mod built;
+
+
