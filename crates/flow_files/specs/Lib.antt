@@ -1,0 +1,5 @@
+pub mod Laws
+pub mod Lines
+pub mod Steps
+pub mod Tallies
+pub mod Texts
