@@ -9,7 +9,7 @@ use Rattle.flow_graph.specs.declared.op_kind.OpKind.{OpKind}
 use Rattle.flow_graph.specs.declared.op_kind.OpKind.TheVariants as kind
 use Rattle.flow_shape.specs.declared.fault.ShapeWhy.{ShapeWhy}
 use Rattle.flow_shape.specs.Causes.{first_cause}
-use Rattle.flow_shape.specs.Options.{IsKnown, first_fields, option_causes, output_causes}
+use Rattle.flow_shape.specs.Options.{IsKnown, first_fields, option_causes, output_causes, operator_parts}
 use Rattle.flow_shape.specs.Refusals.{HasOnlyKnown, chart_of, inputs_at, input_cause, operator_cause}
 use Rattle.flow_shape.proofs.Firsts.{or_else, first_both}
 
@@ -22,7 +22,7 @@ pub known_at : (flow : Flow) (o : ℕ) → HasOnlyKnown flow → o < length flow
 known_at flow o a h = all_at (λ (s : OpSpec). IsKnown s.kind) flow.ops o no_op a h
 
 -- a known operator sees its first input alone
-own_same : (k : OpKind) (ins : List (List Field)) → IsKnown k → first_cause (option_causes k ins ++ output_causes k ins) ≡ first_cause (option_causes k (first_fields ins ∷ []) ++ output_causes k (first_fields ins ∷ []))
+pub own_same : (k : OpKind) (ins : List (List Field)) → IsKnown k → first_cause (option_causes k ins ++ output_causes k ins) ≡ first_cause (option_causes k (first_fields ins ∷ []) ++ output_causes k (first_fields ins ∷ []))
 own_same (kind.Import file schema delim fixed reject) ins h = refl
 own_same (kind.Export file delim fixed) ins h = refl
 own_same kind.Copy ins h = refl
@@ -41,3 +41,11 @@ cause_parts flow schemas o inputs own first known e f g =
     let mine = g ∙ (ap (λ x. first_cause (option_causes k (x ∷ []) ++ output_causes k (x ∷ []))) f ∙ sym (own_same k ins known)) in
     ap (λ x. or_else x own) e ∙ (ap (or_else (first_cause (map (input_cause (chart_of flow schemas) o) (links_into (chart_of flow schemas) o)))) mine
       ∙ sym (first_both (map (input_cause (chart_of flow schemas) o) (links_into (chart_of flow schemas) o)) (option_causes k ins ++ output_causes k ins)))
+
+pub parts_same : (k : OpKind) (ins : List (List Field)) → IsKnown k → operator_parts k (first_fields ins ∷ []) ≡ operator_parts k ins
+parts_same (kind.Import file schema delim fixed reject) ins h = refl
+parts_same (kind.Export file delim fixed) ins h = refl
+parts_same kind.Copy ins h = refl
+parts_same (kind.Tsort key) ins h = refl
+parts_same (kind.Remdup key last) ins h = refl
+parts_same k ins h = absurd h

@@ -20,7 +20,7 @@ use Rattle.flow_shape.proofs.Same.{AgreeInto, AgreeFrom, same_cause, same_given,
 abbrev pub Closed : List LinkSpec → List ℕ → Type 0
 Closed links done = (c j : ℕ) → feeds links c j ≡ true → is_done done j ≡ true → is_done done c ≡ true
 
-done_still : (done : List ℕ) (x c : ℕ) → is_done done c ≡ true → is_done (done ++ x ∷ []) c ≡ true
+pub done_still : (done : List ℕ) (x c : ℕ) → is_done done c ≡ true → is_done (done ++ x ∷ []) c ≡ true
 done_still done x c h = done_more done x c ∙ or_left (is_done done c) (x == c) h
 
 closed_next : (links : List LinkSpec) (done : List ℕ) (x : ℕ) → is_ready links done x ≡ true → Closed links done → Closed links (done ++ x ∷ [])

@@ -69,6 +69,9 @@ abbrev pub stored_for : List Stored → OpKind → Option Stored
 stored_for dict (kind.Dsread ds) = find (λ (s : Stored). bytes_eq s.name ds) dict
 stored_for dict k = None
 
+abbrev pub stored_at : List Stored → Chart → ℕ → Option Stored
+stored_at dict c o = stored_for dict (kind_at c o)
+
 -- each link has a schema, and each operator fits
 pub record AllFit (c : Chart) : Type 0 where
   pub each_link : length c.schemas ≡ length c.flow.links
@@ -83,7 +86,7 @@ pub record IsShapeOf (flow : Flow) (dict : List Stored) (c : Chart) : Type 0 whe
   pub schemas : AllFit c
   pub parts : c.parts ≡ map (parts_at c) (all_ops c)
   pub written : c.written ≡ map (written_at c) (all_links c)
-  pub stored : c.stored ≡ map (λ o. stored_for dict (kind_at c o)) (all_ops c)
+  pub stored : c.stored ≡ map (stored_at dict c) (all_ops c)
   pub files : HasNone (length flow.ops) (Clashes flow.ops)
 
 -- the operators before this one in the order fit, and this is the first cause at it
@@ -110,3 +113,8 @@ Refuses flow cause o =
 abbrev pub IsFirstFault : Flow → ShapeFault → Type 0
 IsFirstFault flow fault.Memory = Unit {0}
 IsFirstFault flow (fault.Bad cause o) = FirstFault flow cause o
+
+-- a fault that isn't want of memory is the first of the flow
+abbrev pub IsFirst : Flow → ShapeFault → Type 0
+IsFirst flow fault.Memory = Unit {0}
+IsFirst flow (fault.Bad cause o) = Refuses flow cause o

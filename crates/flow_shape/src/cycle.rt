@@ -1,10 +1,10 @@
-ghost use Rattle.std.specs.Prelude.{◌≡◌, ◌<◌, ◌==◌, ◌||◌, ◌&&◌, not, ℕ, true, false, length, get_or, IfOk, IfSome, IfNone, position};
+ghost use Rattle.std.specs.Prelude.{◌≡◌, ◌<◌, ◌^◌, ◌==◌, ◌||◌, ◌&&◌, not, ℕ, true, false, length, get_or, IfOk, IfSome, IfNone, position};
 ghost use Rattle.std.specs.List.{list_any};
 ghost use Rattle.flow_shape.specs.Causes.{IsLowest, HasNone};
 ghost use Rattle.flow_shape.specs.Links.{AreWithin, Reaches, OnCycle, is_open};
 
 use ds_value::NoMemory;
-use flow_graph::LinkSpec;
+use flow_graph::{Flow, LinkSpec};
 use std::alloc::Global;
 
 fn is_marked(marks: &[bool], op: u32, otherwise: bool) -> bool
@@ -61,17 +61,15 @@ fn is_on_cycle(alloc: Global, count: u32, links: &[LinkSpec], op: u32) -> Result
 }
 
 /// The lowest operator on a cycle.
-pub fn lowest_on_cycle(
-    alloc: Global,
-    count: u32,
-    links: &[LinkSpec],
-) -> Result<Option<u32>, NoMemory>
-    requires { AreWithin count links.now }
-    ensures found { IfOk result (λ r. IfSome r (λ i. IsLowest count (OnCycle links.now) i)) }
-    ensures none { IfOk result (λ r. IfNone r (HasNone count (OnCycle links.now))) }
+pub fn lowest_on_cycle(alloc: Global, flow: &Flow) -> Result<Option<u32>, NoMemory>
+    requires few { length flow.now.ops < 2 ^ 32 }
+    requires within { AreWithin (length flow.now.ops) flow.now.links }
+    ensures found { IfOk result (λ r. IfSome r (λ i. IsLowest (length flow.now.ops) (OnCycle flow.now.links) i)) }
+    ensures none { IfOk result (λ r. IfNone r (HasNone (length flow.now.ops) (OnCycle flow.now.links))) }
 {
+    let count = flow.ops.as_slice().len() as u32;
     for op in 0..count {
-        if is_on_cycle(alloc, count, links, op)? {
+        if is_on_cycle(alloc, count, flow.links.as_slice(), op)? {
             return Ok(Some(op));
         }
     }

@@ -5,6 +5,7 @@
 mod cycle;
 mod fault;
 mod files;
+mod finding;
 mod giving;
 mod inputs;
 mod methods;
@@ -15,8 +16,10 @@ mod outputs;
 mod ports;
 mod reading;
 mod sequence;
+mod shaping;
 mod typing;
 mod widths;
 
+pub use shaping::shape;
 pub use sequence::{one_order, ordered_is_free};
 pub use fault::{ShapeFault, ShapeWhy};
