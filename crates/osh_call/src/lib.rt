@@ -1,6 +1,5 @@
 //! What a call of the program comes to, stage by stage.
 #![tactic(auto)]
 
+mod answer;
 mod built;
-
-
