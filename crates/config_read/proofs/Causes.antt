@@ -1,20 +1,18 @@
 -- Why the machine stops, and that it can go on elsewhere.
-use Rattle.std.proofs.Common.{◌≡◌, ◌≤◌, ◌<◌, ◌+◌, ◌++◌, ℕ, zero, suc, List, [], ◌∷◌, length, Result, Ok, Err, Bool, true, false, refl, sym, ap, subst, ◌∙◌, arith}
-use Rattle.std.specs.Prelude.{if◌then◌else◌, nat_le, not, ◌&&◌, codes}
+use Rattle.std.proofs.Common.{◌≡◌, ◌<◌, ◌++◌, ℕ, List, [], ◌∷◌, length, Result, Ok, Err, Bool, true, false, refl, subst}
+use Rattle.std.specs.Prelude.{if◌then◌else◌, nat_le, not, codes}
 use Rattle.std.specs.Str.{bytes_eq}
 use Rattle.std.proofs.lemmas.Bool.{leb-false, and_right, not-true, not-false}
-use Rattle.ds_lex.specs.declared.token.Sort.{Sort}
 use Rattle.ds_lex.specs.declared.token.Sort.TheVariants as sort
 use Rattle.ds_lex.specs.declared.refusal.Refusal.{Refusal}
 use Rattle.ds_lex.specs.Lexemes.{Lexeme}
-use Rattle.ds_lex.specs.Reading.{◌>>=◌, refuse, is_sort}
+use Rattle.ds_lex.specs.Reading.{is_sort}
 use Rattle.config_read.specs.declared.fault.ConfigWhy.{ConfigWhy}
 use Rattle.config_read.specs.declared.fault.ConfigWhy.TheVariants as why
 use Rattle.config_read.specs.declared.config.Node.{Node}
 use Rattle.config_read.specs.Spelled.{content, is_quoted, has_node}
 use Rattle.config_read.specs.Reading.{is_name, is_name0, with_pool, with_scratch}
-use Rattle.config_read.proofs.Fronts.{pair_parts}
-use Rattle.config_read.proofs.Machine.{Stand, Step, Run, new_node, to, if_word, if_sort, node_step, name_step, inside_step, pool_step, path_step, step, behind, last, run}
+use Rattle.config_read.proofs.Machine.{Stand, Step, new_node, to, node_step, name_step, inside_step, pool_step, path_step, step, behind}
 use Rattle.config_read.proofs.Machine.Stand.{Begin, FirstNode, NextNode, NodeName, Open, Inside, Fast, FirstPool, MorePools, Kind, Path, Braces, BraceWord, BraceFirst, BraceMore, End}
 use Rattle.config_read.proofs.Prefixes.{reach}
 

@@ -1,6 +1,6 @@
 -- The readers do what the machine does.
-use Rattle.std.proofs.Common.{◌≡◌, ◌≤◌, ◌<◌, ◌++◌, ℕ, zero, suc, List, [], ◌∷◌, length, Result, Ok, Err, Bool, true, false, refl, sym, ap, ◌∙◌, arith}
-use Rattle.std.specs.Prelude.{if◌then◌else◌, nat_le, not, ◌&&◌, codes}
+use Rattle.std.proofs.Common.{◌≡◌, ◌≤◌, ◌++◌, ℕ, zero, suc, List, [], ◌∷◌, length, Result, Ok, Err, Bool, true, false, refl, sym, ap, ◌∙◌, arith}
+use Rattle.std.specs.Prelude.{if◌then◌else◌, nat_le, not, codes}
 use Rattle.std.specs.Str.{bytes_eq}
 use Rattle.ds_lex.specs.declared.token.Sort.{Sort}
 use Rattle.ds_lex.specs.declared.token.Sort.TheVariants as sort
@@ -12,7 +12,7 @@ use Rattle.config_read.specs.declared.fault.ConfigWhy.{ConfigWhy}
 use Rattle.config_read.specs.declared.fault.ConfigWhy.TheVariants as why
 use Rattle.config_read.specs.declared.config.Node.{Node}
 use Rattle.config_read.specs.Spelled.{content, is_quoted, has_node}
-use Rattle.config_read.specs.Reading.{Read, is_name, is_name0, named, named0, pool_named, with_pool, with_scratch, more_pools_at, pools_at, behind_quoted, unused_at, with_path, braces_at, resource_at, fastname_at, entry_at, until_closed, entries_at, node_at, further_node_at, nodes_at, text_at}
+use Rattle.config_read.specs.Reading.{Read, is_name, is_name0, named, pool_named, with_pool, with_scratch, more_pools_at, pools_at, behind_quoted, unused_at, with_path, braces_at, resource_at, fastname_at, entry_at, until_closed, entries_at, node_at, further_node_at, nodes_at, text_at}
 use Rattle.config_read.proofs.Fronts.{Fewer, entry_fewer, node_fewer}
 use Rattle.config_read.proofs.Machine.{Stand, Step, Run, new_node, to, if_word, if_sort, node_step, name_step, inside_step, pool_step, path_step, step, behind, last, run}
 use Rattle.config_read.proofs.Machine.Stand.{Begin, FirstNode, NextNode, NodeName, Open, Inside, Fast, FirstPool, MorePools, Kind, Path, Braces, BraceWord, BraceFirst, BraceMore, End}

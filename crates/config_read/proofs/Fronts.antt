@@ -1,17 +1,16 @@
 -- What a reader took stands at the front, so fewer tokens are left.
-use Rattle.std.proofs.Common.{◌≡◌, ◌≤◌, ◌<◌, ◌+◌, ◌++◌, ℕ, zero, suc, List, [], ◌∷◌, length, Option, Some, None, Result, Ok, Err, Bool, true, false, refl, sym, ap, ◌∙◌, arith}
+use Rattle.std.proofs.Common.{◌≡◌, ◌≤◌, ◌<◌, ◌++◌, ℕ, zero, suc, List, [], ◌∷◌, length, Result, Ok, Err, Bool, true, false, refl, sym, ap, arith}
 use Rattle.std.specs.Prelude.{if◌then◌else◌, nat_le, codes}
 use Rattle.std.specs.Str.{bytes_eq}
 use Rattle.ds_lex.specs.declared.token.Sort.{Sort}
 use Rattle.ds_lex.specs.declared.token.Sort.TheVariants as sort
-use Rattle.ds_lex.specs.declared.refusal.Refusal.{Refusal}
 use Rattle.ds_lex.specs.Lexemes.{Lexeme}
 use Rattle.ds_lex.specs.Reading.{◌>>=◌, refuse, is_sort, token_at, expect_at, sort_at, accept_at}
 use Rattle.config_read.specs.declared.fault.ConfigWhy.{ConfigWhy}
 use Rattle.config_read.specs.declared.fault.ConfigWhy.TheVariants as why
 use Rattle.config_read.specs.declared.config.Node.{Node}
 use Rattle.config_read.specs.Spelled.{is_quoted}
-use Rattle.config_read.specs.Reading.{Read, behind_quoted, pool_named, more_pools_at, pools_at, unused_at, with_path, braces_at, resource_at, fastname_at, entry_at, until_closed, entries_at, named, node_at, further_node_at}
+use Rattle.config_read.specs.Reading.{Read, behind_quoted, pool_named, more_pools_at, pools_at, unused_at, with_path, braces_at, resource_at, fastname_at, entry_at, until_closed, named, node_at, further_node_at}
 
 -- equal pairs have equal parts
 pub pair_parts : {A B : Type 0} → (x y : A × B) → x ≡ y → (x.0 ≡ y.0) × (x.1 ≡ y.1)

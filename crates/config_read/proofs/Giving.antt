@@ -1,5 +1,5 @@
 -- What the machine took spells a configuration.
-use Rattle.std.proofs.Common.{◌≡◌, ◌≤◌, ◌<◌, ◌+◌, ◌++◌, ℕ, zero, suc, List, [], ◌∷◌, length, map, Result, Ok, Err, Bool, true, false, refl, sym, ap, subst, inl, inr, ◌∙◌, arith}
+use Rattle.std.proofs.Common.{◌≡◌, ◌≤◌, ◌<◌, ◌+◌, ◌++◌, ℕ, List, [], ◌∷◌, length, map, Ok, Err, Bool, true, false, refl, sym, ap, subst, inl, inr, ◌∙◌, arith}
 use Rattle.std.specs.Prelude.{◌⊎◌, if◌then◌else◌, nat_le, not, ◌&&◌, codes}
 use Rattle.std.specs.List.{flat_map, AllByRecursion}
 use Rattle.std.specs.Str.{bytes_eq}
@@ -7,32 +7,31 @@ use Rattle.std.proofs.lemmas.Slice.Eq.{bytes_eq-Decides}
 use Rattle.std.proofs.lemmas.List.{append_assoc, append-nil, length-append}
 use Rattle.std.proofs.lemmas.Bool.{leb-false, false_from_ne_true}
 use Rattle.ds_value.specs.Names.{IsName, IsName0}
-use Rattle.ds_lex.specs.declared.token.Sort.{Sort}
 use Rattle.ds_lex.specs.declared.token.Sort.TheVariants as sort
 use Rattle.ds_lex.specs.Lexemes.{Lexeme}
 use Rattle.ds_lex.specs.Pieces.{begins_with, opens_quoted}
-use Rattle.ds_lex.specs.Reading.{◌>>=◌, refuse, is_sort}
+use Rattle.ds_lex.specs.Reading.{is_sort}
 use Rattle.config_read.specs.declared.fault.ConfigWhy.{ConfigWhy}
 use Rattle.config_read.specs.declared.fault.ConfigWhy.TheVariants as why
 use Rattle.config_read.specs.declared.config.Node.{Node}
-use Rattle.config_read.specs.Spelled.{content, is_quoted, has_node, Is, IsQuoted, IsWord, AreQuoted, Entry, entry_tokens, IsEntry, pools_of, scratch_path, scratch_of, NodeText, node_tokens, IsNodeText, node_of, Text, text_tokens, IsText, IsNamed, AreNew}
+use Rattle.config_read.specs.Spelled.{content, is_quoted, has_node, Is, IsQuoted, IsWord, Entry, entry_tokens, IsEntry, pools_of, scratch_path, scratch_of, NodeText, node_tokens, IsNodeText, node_of, IsNamed, AreNew}
 use Rattle.config_read.specs.Spelled.Entry.{Fastname, Pools, Resource, PooledResource}
 use Rattle.config_read.specs.Reading.{is_name, is_name0, with_pool, with_scratch}
 use Rattle.config_read.proofs.Names.{tested_name0, tested_name}
-use Rattle.config_read.proofs.Machine.{Stand, Step, Run, new_node, to, if_word, if_sort, node_step, name_step, inside_step, pool_step, path_step, step, behind, last, run}
+use Rattle.config_read.proofs.Machine.{Stand, Step, Run, new_node, to, node_step, name_step, inside_step, pool_step, path_step, behind, run}
 use Rattle.config_read.proofs.Machine.Stand.{Begin, FirstNode, NextNode, NodeName, Open, Inside, Fast, FirstPool, MorePools, Kind, Path, Braces, BraceWord, BraceFirst, BraceMore, End}
-use Rattle.config_read.proofs.Taking.{When, when_map, more_of, more_none, more_more, pooled, NamedEntry, NamedEntries, Fits, FitAll}
+use Rattle.config_read.proofs.Taking.{When, when_map, more_of, more_none, more_more, pooled, NamedEntry, NamedEntries}
 
 -- a QUOTED begins with a quote
 abbrev pub IsToken : Lexeme → Type 0
 IsToken t = is_quoted t ≡ true → begins_with opens_quoted t.bytes ≡ true
 
-is_word : (word : List ℕ) (t : Lexeme) → IsToken t → begins_with opens_quoted word ≡ false → bytes_eq t.bytes word ≡ true → Is word t
+pub is_word : (word : List ℕ) (t : Lexeme) → IsToken t → begins_with opens_quoted word ≡ false → bytes_eq t.bytes word ≡ true → Is word t
 is_word word t k w e =
     let same = (bytes_eq-Decides t.bytes word).0 e in
     record { bytes = same; plain = false_from_ne_true (is_quoted t) (λ q. let c = rw same at (k q) in cc) }
 
-ok_is : (x y : List Node) → (let r : Run = Ok x in r) ≡ Ok y → x ≡ y
+pub ok_is : (x y : List Node) → (let r : Run = Ok x in r) ≡ Ok y → x ≡ y
 ok_is x y h = cc
 
 passed : (c : Bool) (t : Lexeme) (s : Step) (f : List Node → Stand → Run) (res : List Node) → behind t (if c then s else Err why.Syntax) f ≡ Ok res → (c ≡ true) × (behind t s f ≡ Ok res)
@@ -84,72 +83,72 @@ pub record Nodes (b : Bool) (ns : List Node) (ts : List Lexeme) (res : List Node
   pub fits : When b (AllByRecursion IsNamed (map node_of nodes) × (AreNew ns (map node_of nodes) × (1 ≤ length nodes → length ns + length nodes ≤ 64)))
 
 -- further entries of a node, its end and further nodes
-record Rest (b : Bool) (ns : List Node) (node : Node) (ts : List Lexeme) (res : List Node) : Type 0 where
-  entries : List Entry
-  end : Lexeme
-  more : List Lexeme
-  tokens : ts ≡ flat_map entry_tokens entries ++ end ∷ more
-  each : AllByRecursion IsEntry entries
-  closed : Is (codes "}") end
-  named : When b (NamedEntries entries)
-  nodes : Nodes b (ns ++ more_of node (flat_map pools_of entries) (flat_map scratch_of entries) ∷ []) more res
+pub record Rest (b : Bool) (ns : List Node) (node : Node) (ts : List Lexeme) (res : List Node) : Type 0 where
+  pub entries : List Entry
+  pub end : Lexeme
+  pub more : List Lexeme
+  pub tokens : ts ≡ flat_map entry_tokens entries ++ end ∷ more
+  pub each : AllByRecursion IsEntry entries
+  pub closed : Is (codes "}") end
+  pub named : When b (NamedEntries entries)
+  pub nodes : Nodes b (ns ++ more_of node (flat_map pools_of entries) (flat_map scratch_of entries) ∷ []) more res
 
 -- one or more QUOTED, each a name, and what follows them
-record Quoteds (some b : Bool) (ns : List Node) (node : Node) (ts : List Lexeme) (res : List Node) : Type 0 where
-  names : List Lexeme
-  more : List Lexeme
-  tokens : ts ≡ names ++ more
-  many : When some (1 ≤ length names)
-  each : AllByRecursion IsQuoted names
-  named : When b (AllByRecursion IsName0 (map content names))
-  rest : Rest b ns (more_of node (map content names) []) more res
+pub record Quoteds (some b : Bool) (ns : List Node) (node : Node) (ts : List Lexeme) (res : List Node) : Type 0 where
+  pub names : List Lexeme
+  pub more : List Lexeme
+  pub tokens : ts ≡ names ++ more
+  pub many : When some (1 ≤ length names)
+  pub each : AllByRecursion IsQuoted names
+  pub named : When b (AllByRecursion IsName0 (map content names))
+  pub rest : Rest b ns (more_of node (map content names) []) more res
 
 -- the unused pools of a resource from inside its bracket
-record Unused (some b : Bool) (ns : List Node) (node : Node) (ts : List Lexeme) (res : List Node) : Type 0 where
-  names : List Lexeme
-  end : Lexeme
-  more : List Lexeme
-  tokens : ts ≡ names ++ end ∷ more
-  many : When some (1 ≤ length names)
-  each : AllByRecursion IsQuoted names
-  closed : Is (codes "}") end
-  rest : Rest b ns node more res
+pub record Unused (some b : Bool) (ns : List Node) (node : Node) (ts : List Lexeme) (res : List Node) : Type 0 where
+  pub names : List Lexeme
+  pub end : Lexeme
+  pub more : List Lexeme
+  pub tokens : ts ≡ names ++ end ∷ more
+  pub many : When some (1 ≤ length names)
+  pub each : AllByRecursion IsQuoted names
+  pub closed : Is (codes "}") end
+  pub rest : Rest b ns node more res
 
-abbrev One : (Lexeme → Type 0) → (List Lexeme → Type 0) → List Lexeme → Type 0
+abbrev pub One : (Lexeme → Type 0) → (List Lexeme → Type 0) → List Lexeme → Type 0
 One P Q ts = (t : Lexeme) × ((us : List Lexeme) × ((ts ≡ t ∷ us) × (P t × Q us)))
 
 -- behind a resource's path
-abbrev AfterPath : Bool → List Node → Node → List Lexeme → List Node → Type 0
+abbrev pub AfterPath : Bool → List Node → Node → List Lexeme → List Node → Type 0
 AfterPath b ns node ts res = Rest b ns node ts res ⊎ One (Is (codes "{")) (One (Is (codes "pools")) (λ us. Unused true b ns node us res)) ts
 
-record AtPath (b : Bool) (ns : List Node) (kind : Lexeme) (node : Node) (ts : List Lexeme) (res : List Node) : Type 0 where
-  path : Lexeme
-  more : List Lexeme
-  tokens : ts ≡ path ∷ more
-  quoted : IsQuoted path
-  named : When b (AllByRecursion IsName0 (scratch_path kind path))
-  rest : AfterPath b ns (more_of node [] (scratch_path kind path)) more res
+pub record AtPath (b : Bool) (ns : List Node) (kind : Lexeme) (node : Node) (ts : List Lexeme) (res : List Node) : Type 0 where
+  pub path : Lexeme
+  pub more : List Lexeme
+  pub tokens : ts ≡ path ∷ more
+  pub quoted : IsQuoted path
+  pub named : When b (AllByRecursion IsName0 (scratch_path kind path))
+  pub rest : AfterPath b ns (more_of node [] (scratch_path kind path)) more res
 
-record AtKind (b : Bool) (ns : List Node) (node : Node) (ts : List Lexeme) (res : List Node) : Type 0 where
-  kind : Lexeme
-  more : List Lexeme
-  tokens : ts ≡ kind ∷ more
-  word : IsWord kind
-  rest : AtPath b ns kind node more res
+pub record AtKind (b : Bool) (ns : List Node) (node : Node) (ts : List Lexeme) (res : List Node) : Type 0 where
+  pub kind : Lexeme
+  pub more : List Lexeme
+  pub tokens : ts ≡ kind ∷ more
+  pub word : IsWord kind
+  pub rest : AtPath b ns kind node more res
 
-record AtName (b : Bool) (ns : List Node) (ts : List Lexeme) (res : List Node) : Type 0 where
-  name : Lexeme
-  more : List Lexeme
-  tokens : ts ≡ name ∷ more
-  quoted : IsQuoted name
-  named : When b (IsName (content name) × (has_node ns (content name) ≡ false))
-  rest : One (Is (codes "{")) (λ us. Rest b ns (new_node (content name)) us res) more
+pub record AtName (b : Bool) (ns : List Node) (ts : List Lexeme) (res : List Node) : Type 0 where
+  pub name : Lexeme
+  pub more : List Lexeme
+  pub tokens : ts ≡ name ∷ more
+  pub quoted : IsQuoted name
+  pub named : When b (IsName (content name) × (has_node ns (content name) ≡ false))
+  pub rest : One (Is (codes "{")) (λ us. Rest b ns (new_node (content name)) us res) more
 
-record AtNode (b : Bool) (ns : List Node) (ts : List Lexeme) (res : List Node) : Type 0 where
-  found : Nodes b ns ts res
-  some : 1 ≤ length found.nodes
+pub record AtNode (b : Bool) (ns : List Node) (ts : List Lexeme) (res : List Node) : Type 0 where
+  pub found : Nodes b ns ts res
+  pub some : 1 ≤ length found.nodes
 
-abbrev Goal : Bool → List Node → Stand → List Lexeme → List Node → Type 0
+abbrev pub Goal : Bool → List Node → Stand → List Lexeme → List Node → Type 0
 Goal b ns Begin ts res = One (Is (codes "{")) (λ us. AtNode b ns us res) ts
 Goal b ns FirstNode ts res = AtNode b ns ts res
 Goal b ns NextNode ts res = Nodes b ns ts res
@@ -350,7 +349,7 @@ next_by true b ns t ts res h k more x =
     record { nodes = []; end = t; tokens = ap (λ us. t ∷ us) e.0; each = tt; closed = h refl; value = e.1 ∙ sym (append-nil ns); fits = when_map b (Unit {0}) _ (λ u. (tt, (tt, λ s. absurd (omega arith)))) (when_unit b) }
 next_by false b ns t ts res h k more x = (node_step_given b ns t ts res k more x).found
 
-took : (b : Bool) (ns : List Node) (s : Stand) (ts : List Lexeme) (res : List Node) → AllByRecursion IsToken ts → run b ns s ts ≡ Ok res → Goal b ns s ts res
+pub took : (b : Bool) (ns : List Node) (s : Stand) (ts : List Lexeme) (res : List Node) → AllByRecursion IsToken ts → run b ns s ts ≡ Ok res → Goal b ns s ts res
 took b ns Begin [] res k h = cc
 took b ns FirstNode [] res k h = cc
 took b ns NextNode [] res k h = cc

@@ -8,3 +8,7 @@ pub mod Giving
 pub mod Prefixes
 pub mod Causes
 pub mod Ways
+pub mod Quotes
+pub mod Exact
+pub mod OneAnswer
+pub mod Texts

@@ -1,5 +1,5 @@
 -- Steps of the loops that read up to an end.
-use Rattle.std.proofs.Common.{◌≡◌, ◌≤◌, ◌<◌, ◌+◌, ◌-◌, ◌++◌, ℕ, zero, suc, List, [], ◌∷◌, length, Result, Ok, Err, Bool, true, false, refl, sym, ap, ◌∙◌, arith}
+use Rattle.std.proofs.Common.{◌≡◌, ◌≤◌, ◌-◌, ℕ, zero, suc, List, [], ◌∷◌, length, Result, Ok, Err, Bool, true, false, refl, sym, ap, ◌∙◌, arith}
 use Rattle.std.specs.Prelude.{if◌then◌else◌, codes}
 use Rattle.ds_lex.specs.declared.refusal.Refusal.{Refusal}
 use Rattle.ds_lex.specs.declared.refusal.Refusal.TheVariants as refusal
@@ -8,10 +8,8 @@ use Rattle.ds_lex.specs.declared.refusal.Stop.TheVariants as stop
 use Rattle.ds_lex.specs.Lexemes.{Lexeme}
 use Rattle.ds_lex.specs.Reading.{◌>>=◌, Fails, accept_at, expect_at, token_at}
 use Rattle.config_read.specs.declared.fault.ConfigWhy.{ConfigWhy}
-use Rattle.config_read.specs.declared.fault.ConfigWhy.TheVariants as why
-use Rattle.config_read.specs.declared.config.Node.{Node}
 use Rattle.config_read.specs.Reading.{Read, until_closed, entry_at, node_at, further_node_at}
-use Rattle.config_read.proofs.Fronts.{Fewer, bind_ok, ok_parts, accepted, not_accepted}
+use Rattle.config_read.proofs.Fronts.{Fewer, accepted, not_accepted}
 
 -- a reader that fails fails with whatever follows
 pub fails_bind : {A B : Type 0} → (e : Stop ConfigWhy) (read : Result A (Refusal ConfigWhy)) (f : A → Result B (Refusal ConfigWhy)) → Fails e read → Fails e (read >>= f)

@@ -1,5 +1,5 @@
 -- Reading as a machine that takes one token after the other: for each place between two tokens, what a token does there.
-use Rattle.std.proofs.Common.{◌≡◌, ◌≤◌, ◌<◌, ◌++◌, ℕ, zero, suc, List, [], ◌∷◌, length, Result, Ok, Err, Bool, true, false, refl, sym, ap, ◌∙◌, arith}
+use Rattle.std.proofs.Common.{◌++◌, ℕ, List, [], ◌∷◌, length, Result, Ok, Err, Bool}
 use Rattle.std.specs.Prelude.{if◌then◌else◌, nat_le, not, ◌&&◌, codes}
 use Rattle.std.specs.Str.{bytes_eq}
 use Rattle.ds_lex.specs.declared.token.Sort.{Sort}
@@ -7,12 +7,12 @@ use Rattle.ds_lex.specs.declared.token.Sort.TheVariants as sort
 use Rattle.ds_lex.specs.declared.refusal.Refusal.{Refusal}
 use Rattle.ds_lex.specs.declared.refusal.Refusal.TheVariants as refusal
 use Rattle.ds_lex.specs.Lexemes.{Lexeme}
-use Rattle.ds_lex.specs.Reading.{◌>>=◌, refuse, is_sort, token_at, expect_at, sort_at, accept_at, finish_at}
+use Rattle.ds_lex.specs.Reading.{refuse, is_sort}
 use Rattle.config_read.specs.declared.fault.ConfigWhy.{ConfigWhy}
 use Rattle.config_read.specs.declared.fault.ConfigWhy.TheVariants as why
 use Rattle.config_read.specs.declared.config.Node.{Node}
 use Rattle.config_read.specs.Spelled.{content, is_quoted, has_node}
-use Rattle.config_read.specs.Reading.{Read, is_name, is_name0, named, named0, pool_named, with_pool, with_scratch, more_pools_at, pools_at, behind_quoted, unused_at, with_path, braces_at, resource_at, fastname_at, entry_at, until_closed, entries_at, node_at, further_node_at, nodes_at, text_at}
+use Rattle.config_read.specs.Reading.{is_name, is_name0, with_pool, with_scratch}
 
 -- what may come next, and the node of which entries were read
 pub data Stand : Type 0 where

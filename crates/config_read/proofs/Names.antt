@@ -1,12 +1,10 @@
 -- What is a name, as a test and as a fact.
-use Rattle.std.proofs.Common.{◌≡◌, ◌≤◌, ℕ, List, length, Result, Ok, Err, Bool, true, false, refl}
-use Rattle.std.specs.Prelude.{nat_le, ◌&&◌, if◌then◌else◌}
-use Rattle.std.specs.List.{list_all}
+use Rattle.std.proofs.Common.{◌≡◌, ℕ, List, Ok, true, false, refl}
 use Rattle.std.proofs.lemmas.List.Sums.{AllPass-from_list_all, list_all-from_AllPass}
 use Rattle.std.proofs.lemmas.Bool.{leb-true, le-leb, and_parts, and_from, false_from_ne_true}
 use Rattle.ds_value.specs.Names.{IsName, IsName0, is_name_byte}
 use Rattle.ds_lex.specs.Lexemes.{Lexeme}
-use Rattle.ds_lex.specs.Reading.{◌>>=◌, refuse}
+use Rattle.ds_lex.specs.Reading.{refuse}
 use Rattle.config_read.specs.declared.fault.ConfigWhy.TheVariants as why
 use Rattle.config_read.specs.declared.config.Node.{Node}
 use Rattle.config_read.specs.Spelled.{content, has_node}

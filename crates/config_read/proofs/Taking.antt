@@ -1,5 +1,5 @@
 -- The machine takes the tokens of a configuration.
-use Rattle.std.proofs.Common.{◌≡◌, ◌≤◌, ◌<◌, ◌+◌, ◌++◌, ℕ, zero, suc, List, [], ◌∷◌, length, map, Result, Ok, Err, Bool, true, false, refl, sym, ap, ◌∙◌, arith}
+use Rattle.std.proofs.Common.{◌≡◌, ◌≤◌, ◌<◌, ◌+◌, ◌++◌, ℕ, List, [], ◌∷◌, length, map, Ok, Err, Bool, true, false, refl, sym, ap, ◌∙◌, arith}
 use Rattle.std.specs.Prelude.{if◌then◌else◌, nat_le, not, ◌&&◌, codes}
 use Rattle.std.specs.List.{flat_map, AllByRecursion}
 use Rattle.std.specs.Str.{bytes_eq}
@@ -7,18 +7,16 @@ use Rattle.std.proofs.lemmas.List.{append_assoc, append-nil, length-append}
 use Rattle.std.proofs.lemmas.Bool.{lt-leb}
 use Rattle.ds_value.specs.Names.{IsName, IsName0}
 use Rattle.ds_lex.specs.declared.token.Sort.{Sort}
-use Rattle.ds_lex.specs.declared.token.Sort.TheVariants as sort
 use Rattle.ds_lex.specs.Lexemes.{Lexeme}
-use Rattle.ds_lex.specs.Reading.{◌>>=◌, refuse, is_sort}
-use Rattle.config_read.specs.declared.fault.ConfigWhy.{ConfigWhy}
+use Rattle.ds_lex.specs.Reading.{is_sort}
 use Rattle.config_read.specs.declared.fault.ConfigWhy.TheVariants as why
 use Rattle.config_read.specs.declared.config.Node.{Node}
 use Rattle.config_read.specs.Spelled.{content, is_quoted, has_node, Is, IsQuoted, IsWord, AreQuoted, Entry, entry_tokens, IsEntry, pools_of, scratch_path, scratch_of, NodeText, node_tokens, IsNodeText, node_of, Text, text_tokens, IsText, IsNamed, AreNew}
 use Rattle.config_read.specs.Spelled.Entry.{Fastname, Pools, Resource, PooledResource}
 use Rattle.config_read.specs.Reading.{is_name, is_name0, with_pool, with_scratch}
 use Rattle.config_read.proofs.Names.{name0_tested, name_tested}
-use Rattle.config_read.proofs.Machine.{Stand, Step, Run, new_node, to, if_word, if_sort, node_step, name_step, inside_step, pool_step, path_step, step, behind, last, run}
-use Rattle.config_read.proofs.Machine.Stand.{Begin, FirstNode, NextNode, NodeName, Open, Inside, Fast, FirstPool, MorePools, Kind, Path, Braces, BraceWord, BraceFirst, BraceMore, End}
+use Rattle.config_read.proofs.Machine.{Stand, Step, new_node, to, if_word, if_sort, name_step, pool_step, step, behind, run}
+use Rattle.config_read.proofs.Machine.Stand.{Begin, FirstNode, NextNode, Open, Inside, MorePools, Braces, BraceMore}
 
 -- what holds where names are looked at
 abbrev pub When : Bool → Type 0 → Type 0

@@ -1,5 +1,5 @@
 -- The nodes that are in the default pool.
-use Rattle.std.specs.Prelude.{ℕ, List, [], ◌∷◌, length, filter, Bool, ◌==◌, ◌||◌}
+use Rattle.std.specs.Prelude.{ℕ, List, length, filter, Bool, ◌==◌, ◌||◌}
 use Rattle.std.specs.List.{list_any}
 use Rattle.config_read.specs.declared.config.Node.{Node}
 

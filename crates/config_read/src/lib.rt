@@ -4,6 +4,7 @@
 mod config;
 mod entry;
 mod fault;
+pub mod laws;
 mod node;
 mod quoted;
 mod whole;

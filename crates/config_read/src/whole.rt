@@ -1,7 +1,8 @@
 //! A whole text.
 
-ghost use Rattle.std.specs.Prelude.{◌≡◌};
+ghost use Rattle.std.specs.Prelude.{◌≡◌, IfOk, IfErr};
 ghost use Rattle.std.specs.List.{list_any};
+ghost use Rattle.config_read.specs.First.{IsSpelled, Refuses};
 ghost use Rattle.config_read.specs.Pools.{is_default};
 ghost use Rattle.config_read.specs.Reading.{Answers, config_of, end_why, ended, fault_of};
 
@@ -55,9 +56,8 @@ fn ended(nodes: Items<Node>, end: End) -> Result<Config, ConfigFault>
     }
 }
 
-/// The configuration that the bytes spell, or their first fault.
 #[tactic(auto, unfolding(crate::specs::Reading::config_of))]
-pub fn read_config(alloc: Global, bytes: &[u8]) -> Result<Config, ConfigFault>
+fn read(alloc: Global, bytes: &[u8]) -> Result<Config, ConfigFault>
     ensures { Answers result (config_of bytes.now) }
 {
     let LimitedText { lexemes, end } = lex_limited(alloc, Mode::Inner, bytes)?;
@@ -71,6 +71,14 @@ pub fn read_config(alloc: Global, bytes: &[u8]) -> Result<Config, ConfigFault>
         }),
         Err(Stop::Memory) => Err(ConfigFault::Memory),
     }
+}
+
+/// The configuration that the bytes spell, or their first fault.
+pub fn read_config(alloc: Global, bytes: &[u8]) -> Result<Config, ConfigFault>
+    ensures spelled { IfOk result (λ config. IsSpelled bytes.now config) }
+    ensures first_fault { IfErr result (λ fault. Refuses fault bytes.now) }
+{
+    read(alloc, bytes)
 }
 
 #[cfg(test)]

@@ -25,7 +25,7 @@ use Rattle.flow_shape.specs.Refusals.{HasOnlyKnown, chart_of, inputs_at, operato
 use Rattle.flow_shape.specs.Spelled.{IsJoined}
 use Rattle.flow_shape.proofs.Causing.{known_at, all_at}
 use Rattle.flow_shape.proofs.Given.{ends, has_ports}
-use Rattle.flow_shape.proofs.Holding.{route_fits, form_ports, form_out, form_fills, own_columns, operator_keys_lie, operator_keys_differ, into_count, first_of, few_links}
+use Rattle.flow_shape.proofs.Holding.{route_fits, form_ports, form_out, form_fills, own_columns, few_kept, operator_keys_lie, operator_keys_differ, into_count, first_of, few_links}
 use Rattle.flow_shape.proofs.Ordering.{order_once, order_forward}
 use Rattle.flow_shape.proofs.Sound.{method_none, method_sound, cause_parts}
 use Rattle.flow_shape.proofs.Stuck.{whole_order}
@@ -113,6 +113,7 @@ op_fits flow dict schemas parts written order stored f o h =
         (operator_keys_lie k ins width i known none (ap length (first_of (λ l. get_or schemas l []) into [] i w)));
       keys_differ = subst (λ (p : OpParts). AllByRecursion KeysDiffer p.keys) (sym mine) (operator_keys_differ k ins known none (all_at (λ (s : OpSpec). KeysDistinct s.kind) flow.ops o no_op f.joined.keys h));
       columns = own_columns c o k known (ap (λ (p : OpParts). p.cols) mine);
+      few_kept = few_kept k (cols_at c o) known;
     }
 
 pub is_shape : (flow : Flow) (dict : List Stored) (schemas : List (List Field)) (parts : List OpParts) (written : List (Option Route)) (order : List ℕ) (stored : List (Option Stored)) → Finds flow dict schemas parts written order stored → IsShape (made flow schemas parts written order stored)

@@ -18,7 +18,7 @@ use Rattle.flow_graph.specs.declared.flow.Method.TheVariants as method
 use Rattle.flow_graph.specs.declared.op_kind.OpKind.{OpKind}
 use Rattle.flow_graph.specs.declared.op_kind.OpKind.TheVariants as kind
 use Rattle.flow_graph.specs.declared.parts.Stored.{Stored}
-use Rattle.flow_graph.specs.FlowShape.{WrittenFits, FormHasPort, FormFills, FormPorts, ColumnsLie}
+use Rattle.flow_graph.specs.FlowShape.{WrittenFits, FormHasPort, FormFills, FormPorts, ColumnsLie, FewKept}
 use Rattle.flow_shape.specs.declared.fault.ShapeWhy.{ShapeWhy}
 use Rattle.flow_shape.specs.declared.fault.ShapeWhy.TheVariants as why
 use Rattle.flow_shape.specs.Causes.{first_cause, cause_if, HasNone}
@@ -109,6 +109,14 @@ own_columns c o kind.Copy h e = none_lie (cols_at c o) _ e
 own_columns c o (kind.Tsort key) h e = none_lie (cols_at c o) _ e
 own_columns c o (kind.Remdup key last) h e = none_lie (cols_at c o) _ e
 own_columns c o k h e = absurd h
+
+pub few_kept : (k : OpKind) (cs : List ℕ) → IsKnown k → FewKept k cs
+few_kept (kind.Import file schema delim fixed reject) cs h = tt
+few_kept (kind.Export file delim fixed) cs h = tt
+few_kept kind.Copy cs h = tt
+few_kept (kind.Tsort key) cs h = tt
+few_kept (kind.Remdup key last) cs h = tt
+few_kept k cs h = absurd h
 
 -- the keys of a known operator
 has_by : (x : Bool) → first_cause (cause_if (not x) why.Field ∷ []) ≡ None → x ≡ true

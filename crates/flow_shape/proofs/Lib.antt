@@ -10,6 +10,7 @@ pub mod Labels
 pub mod Listing
 pub mod Marks
 pub mod Numbers
+pub mod One
 pub mod Ordering
 pub mod Orders
 pub mod Places

@@ -68,7 +68,7 @@ pub follows_end : (n : ℕ) (links : List LinkSpec) (done : List ℕ) → ((j : 
 follows_end n links done none inv = subst (Follows n links []) (append-nil done) (inv [] none)
 
 -- one order
-same_lowest : (n : ℕ) (P : ℕ → Type 0) (i j : ℕ) → IsLowest n P i → IsLowest n P j → i ≡ j
+pub same_lowest : (n : ℕ) (P : ℕ → Type 0) (i j : ℕ) → IsLowest n P i → IsLowest n P j → i ≡ j
 same_lowest n P i j a b =
     let one : j < i → ⊥ = λ h. a.2 j h b.1 in
     let two : i < j → ⊥ = λ h. b.2 i h a.1 in

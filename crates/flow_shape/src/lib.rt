@@ -2,6 +2,7 @@
 //! operators; or its first fault.
 #![tactic(auto)]
 
+mod answers;
 mod cycle;
 mod fault;
 mod files;
@@ -22,4 +23,5 @@ mod widths;
 
 pub use shaping::shape;
 pub use sequence::{one_order, ordered_is_free};
+pub use answers::one_answer;
 pub use fault::{ShapeFault, ShapeWhy};

@@ -2,3 +2,4 @@ pub mod Standing
 pub mod Means
 pub mod MarkLaws
 pub mod SortLaws
+pub mod Examples

@@ -12,6 +12,7 @@ mod token;
 
 pub use fault::{OshFault, OshWhy};
 pub use flow::read_flow;
+pub use stages::plain_mark;
 
 #[cfg(test)]
 mod tests;

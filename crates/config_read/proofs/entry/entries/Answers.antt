@@ -1,6 +1,6 @@
-use Rattle.std.proofs.Common.{◌≡◌, ◌∙◌, sym, ap, length, arith}
+use Rattle.std.proofs.Common.{◌∙◌, sym, ap, length, arith}
 use Rattle.std.proofs.lemmas.Result.{err_from_is_err_and}
-use Rattle.config_read.specs.Reading.{entry_at, entries_at}
+use Rattle.config_read.specs.Reading.{entry_at}
 use Rattle.config_read.proofs.Fronts.{entry_fewer, not_accepted}
 use Rattle.config_read.proofs.Loops.{entry_begins, closes, fails, goes_on}
 use Rattle.config_read.proofs.entry.entries.Goals as goal

@@ -1,6 +1,6 @@
-use Rattle.std.proofs.Common.{◌≡◌, ◌∙◌, sym, ap, length, arith}
+use Rattle.std.proofs.Common.{◌∙◌, sym, ap, length, arith}
 use Rattle.std.proofs.lemmas.Result.{err_from_is_err_and}
-use Rattle.config_read.specs.Reading.{further_node_at, nodes_at}
+use Rattle.config_read.specs.Reading.{further_node_at}
 use Rattle.config_read.proofs.Fronts.{node_fewer, not_accepted}
 use Rattle.config_read.proofs.Loops.{node_begins, closes, fails, goes_on}
 use Rattle.config_read.proofs.node.more_nodes.Goals as goal

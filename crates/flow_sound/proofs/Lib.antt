@@ -1,0 +1,7 @@
+pub mod Members
+pub mod Order
+pub mod Meaning
+pub mod Fitting
+pub mod Keeping
+pub mod Tallying
+pub mod RowsFitting

@@ -1,0 +1,31 @@
+-- Rows against the schemas of their links.
+use Rattle.std.specs.Prelude.{◌≡◌, ◌<◌, ℕ, Bool, true, List, length}
+use Rattle.std.specs.List.{AllByRecursion}
+use Rattle.ds_schema.specs.declared.schema.Field.{Field}
+use Rattle.ds_schema.specs.Schemas.{row_fits}
+use Rattle.op_base.specs.Columns.{Row}
+use Rattle.flow_graph.specs.declared.flow.Flow.{Flow}
+use Rattle.flow_graph.specs.declared.parts.Stored.{Stored}
+use Rattle.flow_graph.specs.declared.route.Choice.{Choice}
+use Rattle.flow_graph.specs.declared.state.State.{State}
+use Rattle.flow_graph.specs.Charts.{Chart, op_at}
+use Rattle.flow_graph.specs.Operators.{Op}
+use Rattle.flow_graph.specs.Runs.{Lists, Means}
+use Rattle.flow_rules.specs.Verdicts.{nodes_of}
+use Rattle.flow_shape.specs.Refusals.{fields_at}
+use Rattle.flow_sound.specs.Kinds.{IsExport, first_into}
+use Rattle.flow_sound.specs.Promise.{AcceptedRun, ShapedFlow}
+
+-- each row fits these fields
+abbrev pub RowsFit : List Field → List Row → Type 0
+RowsFit fields rows = AllByRecursion (λ (r : Row). row_fits fields r ≡ true) rows
+
+-- The meaning's rows do.
+abbrev pub MeaningFits : Type 0
+MeaningFits = (flow : Flow) (dict : List Stored) (c : Chart) (ops : ℕ → Op) (whole : ℕ → List Row) → ShapedFlow flow dict c ops → AllByRecursion (Means whole) (nodes_of c ops) →
+    (l : ℕ) → l < length c.flow.links → RowsFit (fields_at c l) (whole l)
+
+-- So do the rows that came at the partitions of an export.
+abbrev pub ExportsFit : Type 0
+ExportsFit = (regains : Bool) (flow : Flow) (dict : List Stored) (c : Chart) (states : List State) (choices : List Choice) (ops : ℕ → Op) (whole : ℕ → List Row) (run : Lists) → AcceptedRun regains flow dict c states choices ops whole run →
+    (o : ℕ) → o < length c.flow.ops → IsExport (op_at c o).kind → AllByRecursion (RowsFit (fields_at c (first_into c o))) (run.got (first_into c o))

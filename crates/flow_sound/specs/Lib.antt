@@ -1,0 +1,4 @@
+pub mod Kinds
+pub mod Promise
+pub mod Tallies
+pub mod Fitting

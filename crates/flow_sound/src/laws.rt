@@ -1,0 +1,41 @@
+//! The laws of flows of the operators that are built. Each function's contract is its law, and
+//! calling it does nothing.
+
+ghost use Rattle.flow_sound.specs.Fitting.{ExportsFit, MeaningFits};
+ghost use Rattle.flow_sound.specs.Promise.{HasMeaning, HasOneMeaning, FormsFit, OperatorsFit, AcceptedRunsKeep};
+ghost use Rattle.flow_sound.specs.Tallies.{ExportIsTallied, MeaningIsTallied, PartitionsAreTallied, RunIsTallied};
+
+/// A shaped flow has one meaning: the whole list on each link.
+pub fn flows_mean()
+    ensures some { HasMeaning }
+    ensures one { HasOneMeaning }
+{}
+
+/// The operators of a shaped flow are such as the checker sees them, with the inputs and the
+/// columns that the law of flows asks.
+pub fn operators_fit()
+    ensures forms { FormsFit }
+    ensures shapes { OperatorsFit }
+{}
+
+/// A legal run of an accepted flow keeps what the flow means: on each link the state holds and as
+/// many rows were put as the meaning has, the faults are the meaning's, and each export has of the
+/// meaning what the grade of its link says.
+pub fn accepted_runs_keep()
+    ensures { AcceptedRunsKeep }
+{}
+
+/// The faults of the meaning are those of its imports and exports, counted by the numbers of the
+/// operators; those of exports are found in the rows of a run as in the whole.
+pub fn faults_are_tallied()
+    ensures meaning { MeaningIsTallied }
+    ensures run { RunIsTallied }
+    ensures export { ExportIsTallied }
+    ensures partitions { PartitionsAreTallied }
+{}
+
+/// Rows fit the schema of their link: those of the meaning, and those that come at exports.
+pub fn rows_fit_schemas()
+    ensures meaning { MeaningFits }
+    ensures exports { ExportsFit }
+{}

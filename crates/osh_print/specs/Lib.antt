@@ -1,0 +1,3 @@
+pub mod OptionText
+pub mod LinkText
+pub mod FlowText
