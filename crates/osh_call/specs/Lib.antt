@@ -5,3 +5,4 @@ pub mod FlowFiles
 pub mod Ends
 pub mod Leaves
 pub mod Answers
+pub mod Stages

@@ -3,3 +3,6 @@
 
 mod answer;
 mod built;
+mod reports;
+mod say;
+mod stages;
