@@ -1,5 +1,5 @@
 -- The first cause at an operator, by those at its inputs and its own.
-use Rattle.std.proofs.Common.{◌≡◌, ◌<◌, ◌++◌, ◌∷◌, [], ℕ, zero, suc, List, Option, Some, None, refl, sym, ap, ◌∙◌, arith, length, get_or, map}
+use Rattle.std.proofs.Common.{◌≡◌, ◌<◌, ◌++◌, ◌∷◌, [], ℕ, zero, suc, List, Option, refl, sym, ap, ◌∙◌, arith, length, get_or, map}
 use Rattle.std.specs.List.{AllByRecursion}
 use Rattle.ds_schema.specs.declared.schema.Field.{Field}
 use Rattle.flow_graph.specs.Charts.{no_op, links_into}
@@ -40,7 +40,7 @@ cause_parts flow schemas o inputs own first known e f g =
     let ins = inputs_at (chart_of flow schemas) o in
     let mine = g ∙ (ap (λ x. first_cause (option_causes k (x ∷ []) ++ output_causes k (x ∷ []))) f ∙ sym (own_same k ins known)) in
     ap (λ x. or_else x own) e ∙ (ap (or_else (first_cause (map (input_cause (chart_of flow schemas) o) (links_into (chart_of flow schemas) o)))) mine
-      ∙ sym (first_both (map (input_cause (chart_of flow schemas) o) (links_into (chart_of flow schemas) o)) (option_causes k ins ++ output_causes k ins)))
+    ∙ sym (first_both (map (input_cause (chart_of flow schemas) o) (links_into (chart_of flow schemas) o)) (option_causes k ins ++ output_causes k ins)))
 
 pub parts_same : (k : OpKind) (ins : List (List Field)) → IsKnown k → operator_parts k (first_fields ins ∷ []) ≡ operator_parts k ins
 parts_same (kind.Import file schema delim fixed reject) ins h = refl

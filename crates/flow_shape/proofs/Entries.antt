@@ -1,5 +1,5 @@
 -- The inputs of an operator, where a flow's links are gone through from the first on.
-use Rattle.std.proofs.Common.{◌≡◌, ◌<◌, ◌≤◌, ◌+◌, ◌==◌, ◌∷◌, [], ℕ, List, Option, Some, None, cond, refl, sym, ap, subst, ◌∙◌, arith, length, get_or, map, drop, position}
+use Rattle.std.proofs.Common.{◌≡◌, ◌<◌, ◌≤◌, ◌+◌, ◌==◌, [], ℕ, List, Option, Some, None, cond, sym, ap, ◌∙◌, arith, length, get_or, map, drop, position}
 use Rattle.std.specs.List.{position_or_len}
 use Rattle.std.proofs.lemmas.List.{drop_more, drop_all}
 use Rattle.ds_schema.specs.declared.schema.Field.{Field}
@@ -13,7 +13,6 @@ use Rattle.flow_shape.specs.Refusals.{chart_of, inputs_at, input_cause, fields_a
 use Rattle.flow_shape.proofs.Firsts.{or_else, first_next, first_number, no_number}
 use Rattle.flow_shape.proofs.Numbers.{numbers, numbers_of}
 use Rattle.flow_shape.proofs.Places.{place_some, place_none}
-
 
 pub into_numbers : (flow : Flow) (schemas : List (List Field)) (o : ℕ) → links_into (chart_of flow schemas) o ≡ numbers (λ (k : LinkSpec). k.to == o) 0 flow.links
 into_numbers flow schemas o = numbers_of (λ (k : LinkSpec). k.to == o) flow.links
@@ -54,4 +53,4 @@ pub cause_none : (flow : Flow) (schemas : List (List Field)) (o k : ℕ) → len
     → (let d : Option ShapeWhy = None in d) ≡ first_cause (map (input_cause (chart_of flow schemas) o) (links_into (chart_of flow schemas) o))
 cause_none flow schemas o k h inv =
     sym (ap (λ ns. first_cause (map (input_cause (chart_of flow schemas) o) ns)) (into_numbers flow schemas o)
-      ∙ (sym inv ∙ ap (λ ls. first_cause (map (input_cause (chart_of flow schemas) o) (numbers (λ (l : LinkSpec). l.to == o) k ls))) (drop_all k flow.links h)))
+    ∙ (sym inv ∙ ap (λ ls. first_cause (map (input_cause (chart_of flow schemas) o) (numbers (λ (l : LinkSpec). l.to == o) k ls))) (drop_all k flow.links h)))

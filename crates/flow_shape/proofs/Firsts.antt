@@ -1,6 +1,6 @@
 -- The first cause of several places, where the places are those of the links that pass a test.
-use Rattle.std.proofs.Common.{◌≡◌, ◌<◌, ◌≤◌, ◌+◌, ◌==◌, ◌++◌, ◌∷◌, [], ℕ, zero, suc, List, Bool, true, false, not, Option, Some, None, cond, refl, sym, ap, subst, ◌∙◌, arith, length, get_or, map, count_by, nat_lt, position}
-use Rattle.std.specs.List.{position_or_len, prefix_len}
+use Rattle.std.proofs.Common.{◌≡◌, ◌<◌, ◌≤◌, ◌+◌, ◌++◌, ◌∷◌, [], ℕ, suc, List, Bool, true, false, not, Option, Some, None, cond, refl, ap, ◌∙◌, arith, length, get_or, map}
+use Rattle.std.specs.List.{position_or_len}
 use Rattle.ds_schema.specs.declared.schema.Field.{Field}
 use Rattle.flow_graph.specs.declared.flow.LinkSpec.{LinkSpec}
 use Rattle.flow_shape.specs.declared.fault.ShapeWhy.{ShapeWhy}

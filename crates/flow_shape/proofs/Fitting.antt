@@ -1,5 +1,5 @@
 -- All operators fit where those of a whole order do.
-use Rattle.std.proofs.Common.{◌≡◌, ◌<◌, ◌==◌, ◌||◌, ◌∷◌, [], ℕ, List, Bool, true, false, refl, sym, subst, length}
+use Rattle.std.proofs.Common.{◌≡◌, ◌==◌, ◌||◌, ◌∷◌, [], ℕ, List, Bool, true, false, refl, subst, length}
 use Rattle.std.specs.List.{AllByRecursion}
 use Rattle.std.proofs.lemmas.Bool.{eqb-true}
 use Rattle.ds_schema.specs.declared.schema.Field.{Field}

@@ -1,27 +1,25 @@
 -- What was found of a flow is its shape, and has what is asked of a shaped flow.
-use Rattle.std.proofs.Common.{◌≡◌, ◌≤◌, ◌<◌, ◌+◌, ◌^◌, ◌==◌, ◌++◌, ◌∷◌, [], ℕ, zero, suc, List, Bool, true, Option, None, refl, sym, ap, ◌∙◌, arith, length, map, get_or, subst}
+use Rattle.std.proofs.Common.{◌≡◌, ◌≤◌, ◌<◌, ◌==◌, [], ℕ, List, true, Option, None, refl, sym, ap, ◌∙◌, arith, length, map, get_or, subst}
 use Rattle.std.specs.List.{AllByRecursion, filter, range_with_len}
 use Rattle.std.proofs.lemmas.List.FromFn.{get_or-map-range_with_len, length-map-range_with_len}
 use Rattle.ds_schema.specs.declared.schema.Field.{Field}
 use Rattle.ds_schema.specs.Rows.{KeysDiffer, cols}
-use Rattle.op_base.specs.Columns.{IsIn, Lies, all_columns}
+use Rattle.op_base.specs.Columns.{Lies, all_columns}
 use Rattle.op_base.specs.Keyed.{get_keys}
-use Rattle.flow_graph.specs.Charts.{Chart, no_link, no_op, no_parts, is_seq, links_into, link_at, op_at, keys_at, cols_at, first_width, width_at, into_seq, form_at}
+use Rattle.flow_graph.specs.Charts.{Chart, no_link, no_op, no_parts, is_seq, keys_at, cols_at, first_width}
 use Rattle.flow_graph.specs.declared.flow.Flow.{Flow}
-use Rattle.flow_graph.specs.declared.flow.LinkSpec.{LinkSpec}
 use Rattle.flow_graph.specs.declared.flow.OpSpec.{OpSpec}
 use Rattle.flow_graph.specs.declared.parts.OpParts.{OpParts}
 use Rattle.flow_graph.specs.declared.parts.Stored.{Stored}
 use Rattle.flow_graph.specs.declared.route.Route.{Route}
 use Rattle.flow_graph.specs.FlowShape.{IsShape, HasLists, LinkFits, OpFits, WrittenFits}
-use Rattle.flow_graph.specs.FlowShape as shaped
-use Rattle.flow_shape.specs.Causes.{HasNone, first_cause}
+use Rattle.flow_shape.specs.Causes.{HasNone}
 use Rattle.flow_shape.specs.Files.{Clashes}
-use Rattle.flow_shape.specs.Links.{IsOrder, IsWhole, OnCycle, is_done}
-use Rattle.flow_shape.specs.Methods.{method_cause, written_route}
-use Rattle.flow_shape.specs.Options.{IsKnown, KeysDistinct, first_fields, option_causes, output_causes, operator_keys, operator_parts}
-use Rattle.flow_shape.specs.Ports.{WrongPorts, count_in, may_have_in}
-use Rattle.flow_shape.specs.Refusals.{HasOnlyKnown, chart_of, inputs_at, operator_cause, Fits, AllFit, IsShapeOf, parts_at, written_at, stored_at}
+use Rattle.flow_shape.specs.Links.{IsOrder, IsWhole, OnCycle}
+use Rattle.flow_shape.specs.Methods.{written_route}
+use Rattle.flow_shape.specs.Options.{KeysDistinct, operator_parts}
+use Rattle.flow_shape.specs.Ports.{WrongPorts, may_have_in}
+use Rattle.flow_shape.specs.Refusals.{HasOnlyKnown, chart_of, inputs_at, AllFit, IsShapeOf, parts_at, written_at, stored_at}
 use Rattle.flow_shape.specs.Spelled.{IsJoined}
 use Rattle.flow_shape.proofs.Causing.{known_at, all_at}
 use Rattle.flow_shape.proofs.Given.{ends, has_ports}
@@ -110,7 +108,7 @@ op_fits flow dict schemas parts written order stored f o h =
       ports = f.joined.ports o;
       inputs = form_ports k (keys_at c o) (cols_at c o) (get_or stored o None) (first_width c o) (length into) known (subst (λ n. may_have_in k n ≡ true) (sym (into_count flow o)) (has_ports flow o f.ports h).0);
       keys = λ i w. subst (λ (p : OpParts). Lies (cols (get_keys p.keys i)) (all_columns (width i))) (sym mine)
-        (operator_keys_lie k ins width i known none (ap length (first_of (λ l. get_or schemas l []) into [] i w)));
+          (operator_keys_lie k ins width i known none (ap length (first_of (λ l. get_or schemas l []) into [] i w)));
       keys_differ = subst (λ (p : OpParts). AllByRecursion KeysDiffer p.keys) (sym mine) (operator_keys_differ k ins known none (all_at (λ (s : OpSpec). KeysDistinct s.kind) flow.ops o no_op f.joined.keys h));
       columns = own_columns c o k known (ap (λ (p : OpParts). p.cols) mine);
       few_kept = few_kept k (cols_at c o) known;

@@ -1,16 +1,15 @@
 -- What is asked of a shaped flow holds of the shape of a flow.
-use Rattle.std.proofs.Common.{◌≡◌, ◌≤◌, ◌<◌, ◌+◌, ◌*◌, ◌^◌, ◌==◌, ◌++◌, ◌∷◌, [], ◌||◌, ◌&&◌, not, ℕ, zero, suc, List, Bool, true, false, Option, Some, None, cond, refl, sym, ap, ◌∙◌, arith, length, map, get_or, subst, count_by}
-use Rattle.std.specs.List.{AllByRecursion, filter, range_with_len, position_or_len}
+use Rattle.std.proofs.Common.{◌≡◌, ◌≤◌, ◌<◌, ◌+◌, ◌*◌, ◌^◌, ◌==◌, ◌++◌, ◌∷◌, [], ◌||◌, not, ℕ, zero, suc, List, Bool, true, false, Option, None, cond, refl, sym, ap, ◌∙◌, arith, length, map, get_or, subst, count_by}
+use Rattle.std.specs.List.{AllByRecursion, filter, range_with_len}
 use Rattle.std.proofs.lemmas.Bool.{eqb-true, eqb-false}
 use Rattle.std.proofs.lemmas.List.Sums.{sum_by-cons}
-use Rattle.std.proofs.lemmas.List.FromFn.{get_or-map-range_with_len, length-map-range_with_len}
 use Rattle.op_base.proofs.ColumnLaws.{in_range}
 use Rattle.op_base.specs.Columns.{IsIn, Lies, all_columns}
 use Rattle.op_base.specs.Keyed.{get_keys}
 use Rattle.ds_schema.specs.declared.schema.Field.{Field}
 use Rattle.ds_schema.specs.declared.key.Key.{Key}
 use Rattle.ds_schema.specs.Rows.{cols, KeysDiffer}
-use Rattle.flow_graph.specs.Charts.{Chart, no_link, no_op, no_parts, is_seq, kind_form, cols_at, links_into}
+use Rattle.flow_graph.specs.Charts.{Chart, no_link, no_op, kind_form, cols_at}
 use Rattle.flow_graph.specs.declared.flow.Flow.{Flow}
 use Rattle.flow_graph.specs.declared.flow.LinkSpec.{LinkSpec}
 use Rattle.flow_graph.specs.declared.flow.Method.{Method}
@@ -19,12 +18,11 @@ use Rattle.flow_graph.specs.declared.op_kind.OpKind.{OpKind}
 use Rattle.flow_graph.specs.declared.op_kind.OpKind.TheVariants as kind
 use Rattle.flow_graph.specs.declared.parts.Stored.{Stored}
 use Rattle.flow_graph.specs.FlowShape.{WrittenFits, FormHasPort, FormFills, FormPorts, ColumnsLie, FewKept}
-use Rattle.flow_shape.specs.declared.fault.ShapeWhy.{ShapeWhy}
 use Rattle.flow_shape.specs.declared.fault.ShapeWhy.TheVariants as why
 use Rattle.flow_shape.specs.Causes.{first_cause, cause_if, HasNone}
 use Rattle.flow_shape.specs.Methods.{may_stand, all_named, written_route}
 use Rattle.flow_shape.specs.Naming.{is_named, has_column, has_columns, has_keys, column, columns, key_columns}
-use Rattle.flow_shape.specs.Options.{IsKnown, KeysDistinct, first_fields, key_cause, option_causes, output_causes, operator_keys}
+use Rattle.flow_shape.specs.Options.{IsKnown, KeysDistinct, first_fields, option_causes, output_causes, operator_keys}
 use Rattle.flow_shape.specs.Ports.{may_have_in, count_in, WrongPorts}
 use Rattle.flow_shape.specs.Links.{AreWithin}
 use Rattle.flow_shape.specs.Refusals.{HasOnlyKnown}

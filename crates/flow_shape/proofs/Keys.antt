@@ -1,5 +1,5 @@
 -- Different names name different columns.
-use Rattle.std.proofs.Common.{◌≡◌, ◌<◌, ◌≤◌, ◌+◌, ◌∷◌, [], ◌||◌, ◌&&◌, ℕ, List, Bool, true, false, not, refl, sym, ◌∙◌, cond, arith, length}
+use Rattle.std.proofs.Common.{◌≡◌, ◌+◌, ◌∷◌, [], ◌||◌, ℕ, List, Bool, true, false, not, refl, sym, ◌∙◌, cond, arith}
 use Rattle.std.specs.List.{AllByRecursion}
 use Rattle.std.proofs.lemmas.Slice.Eq.{bytes_eq-Decides}
 use Rattle.ds_schema.specs.declared.schema.Field.{Field}

@@ -1,11 +1,10 @@
 -- Links get their fields one by one.
-use Rattle.std.proofs.Common.{◌≡◌, ◌≤◌, ◌<◌, ◌+◌, ◌==◌, ◌&&◌, ◌||◌, ◌∷◌, [], ℕ, List, Bool, true, false, cond, refl, sym, ap, subst, ◌∙◌, arith, length, get_or, set, length-set}
+use Rattle.std.proofs.Common.{◌≡◌, ◌<◌, ◌+◌, ◌==◌, [], ℕ, List, Bool, true, false, cond, refl, sym, subst, ◌∙◌, arith, length, get_or, set, length-set}
 use Rattle.std.proofs.lemmas.Bool.{eqb-true, eq-eqb, eqb-false}
 use Rattle.std.proofs.lemmas.List.{get_or-set_other, get_or-set_same}
 use Rattle.ds_schema.specs.declared.schema.Field.{Field}
 use Rattle.flow_graph.specs.Charts.{no_link}
 use Rattle.flow_graph.specs.declared.flow.Flow.{Flow}
-use Rattle.flow_graph.specs.declared.flow.LinkSpec.{LinkSpec}
 use Rattle.flow_shape.specs.Giving.{HasGiven}
 use Rattle.flow_shape.specs.Links.{feeds}
 use Rattle.flow_shape.specs.Refusals.{chart_of, given_on}

@@ -1,5 +1,6 @@
 pub mod Causing
 pub mod Entries
+mod Examples
 pub mod Firsts
 pub mod Fitting
 pub mod Found

@@ -1,9 +1,9 @@
-use Rattle.std.proofs.Common.{◌≡◌, ◌≤◌, ◌<◌, ◌+◌, ◌-◌, ◌++◌, ◌∷◌, [], ◌==◌, ◌||◌, ◌&&◌, not, ℕ, zero, suc, List, Bool, true, false, Option, Some, None, refl, sym, ap, ◌∙◌, arith, length, get_or, set, cond, subst, nat_lt, position, ◌⊎◌, inl, inr}
-use Rattle.std.specs.List.{list_any, list_all, AllByRecursion, prefix_len}
-use Rattle.std.proofs.lemmas.Bool.{eqb-true, eq-eqb, ne_eqb, eqb-false, ltb-false}
+use Rattle.std.proofs.Common.{◌≡◌, ◌≤◌, ◌<◌, ◌+◌, ◌∷◌, [], ◌==◌, ◌||◌, ◌&&◌, not, ℕ, zero, suc, List, Bool, true, false, Option, Some, None, refl, sym, ap, ◌∙◌, arith, length, get_or, set, cond, subst, nat_lt, position, ◌⊎◌, inl, inr}
+use Rattle.std.specs.List.{list_any, prefix_len}
+use Rattle.std.proofs.lemmas.Bool.{eqb-true, eq-eqb, ltb-false}
 use Rattle.std.proofs.lemmas.List.Quantifiers.{position-Some}
 use Rattle.flow_graph.specs.declared.flow.LinkSpec.{LinkSpec}
-use Rattle.flow_shape.specs.Links.{joins, feeds, Way, Reaches, OnCycle, AreWithin, is_open}
+use Rattle.flow_shape.specs.Links.{joins, feeds, Way, Reaches, AreWithin, is_open}
 use Rattle.flow_shape.proofs.Orders.{and_parts, or_or}
 
 -- how many aren't marked
@@ -47,8 +47,9 @@ feeds_at (l ∷ links) (suc k) d h = or_right (joins (get_or links k d).from (ge
 reached_end : (links : List LinkSpec) (start : ℕ) (marks : List Bool) (l : LinkSpec) → feeds links l.from l.to ≡ true → ((l.from == start) || get_or marks l.from false) ≡ true
     → ((v : ℕ) → get_or marks v false ≡ true → Reaches links start v) → Reaches links start l.to
 reached_end links start marks l f b sound = elim (or_or (l.from == start) (get_or marks l.from false) b) [
-    inl e ↦ (0, (l.from, sym (eqb-true l.from start e), f))
-  | inr e ↦ (let r = sound l.from e in (suc r.0, (l.from, r.1, f))) ]
+  | inl e ↦ (0, (l.from, sym (eqb-true l.from start e), f))
+  | inr e ↦ (let r = sound l.from e in (suc r.0, (l.from, r.1, f)))
+]
 
 pub marked : (links : List LinkSpec) (start k : ℕ) (marks : List Bool) (d : LinkSpec) → k < length links → is_open start marks (get_or links k d) ≡ true
     → ((v : ℕ) → get_or marks v false ≡ true → Reaches links start v) → (v : ℕ) → get_or (set marks (get_or links k d).to true) v false ≡ true → Reaches links start v
@@ -56,8 +57,9 @@ marked links start k marks d within o sound v h =
     let l = get_or links k d in
     let parts = and_parts ((l.from == start) || get_or marks l.from false) _ o in
     elim (set_marked marks l.to v h) [
-      inl e ↦ subst (Reaches links start) (sym e) (reached_end links start marks l (feeds_at links k d within) parts.0 sound)
-    | inr e ↦ sound v e ]
+      | inl e ↦ subst (Reaches links start) (sym e) (reached_end links start marks l (feeds_at links k d within) parts.0 sound)
+      | inr e ↦ sound v e
+    ]
 
 not_true : (x : Bool) → not x ≡ true → x ≡ false
 not_true true h = cc
@@ -116,8 +118,9 @@ step_closed start marks [] c v none w f b = cc
 step_closed start marks (l ∷ links) c v none w f b =
     let parts = or_false (is_open start marks l) _ none in
     elim (or_or (joins c v l) (feeds links c v) f) [
-      inl j ↦ one_closed start marks l c v parts.0 w.0.1 j b
-    | inr j ↦ step_closed start marks links c v parts.1 w.1 j b ]
+      | inl j ↦ one_closed start marks l c v parts.0 w.0.1 j b
+      | inr j ↦ step_closed start marks links c v parts.1 w.1 j b
+    ]
 
 pub all_reached : (start : ℕ) (marks : List Bool) (links : List LinkSpec) → list_any (is_open start marks) links ≡ false → AreWithin (length marks) links → (n v : ℕ) → Way links start v (suc n) → get_or marks v false ≡ true
 all_reached start marks links none w zero v way = step_closed start marks links way.0 v none w way.2 (or_left (way.0 == start) _ (eq-eqb way.0 start (sym way.1)))

@@ -1,5 +1,5 @@
 -- The numbers of the links that pass a test.
-use Rattle.std.proofs.Common.{◌≡◌, ◌<◌, ◌≤◌, ◌+◌, ◌==◌, ◌++◌, ◌∷◌, [], ℕ, zero, suc, List, Bool, true, false, cond, refl, sym, ap, subst, ◌∙◌, arith, length, get_or, map, take, drop, append_assoc, count_by, add-one, length-append}
+use Rattle.std.proofs.Common.{◌≡◌, ◌+◌, ◌++◌, ◌∷◌, [], ℕ, List, Bool, cond, refl, sym, ap, subst, ◌∙◌, length, get_or, append_assoc, length-append}
 use Rattle.std.specs.List.{filter, range_with_len}
 use Rattle.flow_graph.specs.declared.flow.LinkSpec.{LinkSpec}
 use Rattle.flow_graph.specs.Charts.{no_link}
@@ -24,8 +24,8 @@ from_on p all pre [] e = refl
 from_on p all pre (l ∷ links) e =
     let len : length (pre ++ l ∷ []) ≡ length pre + 1 = len_more pre l in
     let rest : filter (λ x. p (get_or all x no_link)) (range_with_len (length pre + 1) (length links)) ≡ numbers p (length pre + 1) links =
-      subst (λ n. filter (λ x. p (get_or all x no_link)) (range_with_len n (length links)) ≡ numbers p n links) len
-        (from_on p all (pre ++ l ∷ []) links (e ∙ sym (append_assoc pre (l ∷ []) links))) in
+    subst (λ n. filter (λ x. p (get_or all x no_link)) (range_with_len n (length links)) ≡ numbers p n links) len
+    (from_on p all (pre ++ l ∷ []) links (e ∙ sym (append_assoc pre (l ∷ []) links))) in
     step (λ x. p (get_or all x no_link)) (p l) (length pre) _ _ (ap p (ap (λ xs. get_or xs (length pre) no_link) e ∙ get_at pre l links)) rest
 
 pub numbers_of : (p : LinkSpec → Bool) (links : List LinkSpec) → filter (λ l. p (get_or links l no_link)) (range_with_len 0 (length links)) ≡ numbers p 0 links

@@ -1,5 +1,5 @@
 -- A flow has one answer.
-use Rattle.std.proofs.Common.{◌≡◌, ◌<◌, ◌++◌, ◌∷◌, [], ◌==◌, ◌||◌, ◌&&◌, not, ℕ, zero, suc, List, Bool, true, false, Option, Some, None, refl, sym, ap, ◌∙◌, arith, length, get_or, map, append_assoc, append-nil, subst, ◌⊎◌, inl, inr}
+use Rattle.std.proofs.Common.{◌≡◌, ◌<◌, ◌++◌, ◌∷◌, [], ◌==◌, not, ℕ, List, true, Option, Some, refl, sym, ap, ◌∙◌, arith, length, get_or, map, append_assoc, append-nil, subst, inl, inr}
 use Rattle.std.specs.List.{AllByRecursion, range_with_len}
 use Rattle.std.proofs.lemmas.Bool.{eqb-true}
 use Rattle.std.proofs.lemmas.List.{ext_get_or}
@@ -13,9 +13,9 @@ use Rattle.flow_shape.specs.declared.fault.ShapeWhy.{ShapeWhy}
 use Rattle.flow_shape.specs.Answers.{OneShape, ShapeOrFault, OneFault}
 use Rattle.flow_shape.specs.Causes.{IsLowest, HasNone}
 use Rattle.flow_shape.specs.Files.{Clashes}
-use Rattle.flow_shape.specs.Links.{AreWithin, OnCycle, feeds, is_done, is_ready, Follows, IsOrder, IsWhole}
+use Rattle.flow_shape.specs.Links.{AreWithin, OnCycle, is_done, is_ready, Follows}
 use Rattle.flow_shape.specs.Ports.{WrongPorts}
-use Rattle.flow_shape.specs.Refusals.{chart_of, operator_cause, Fits, AllFit, IsShapeOf, FirstFault, Refuses, parts_at, written_at, stored_at}
+use Rattle.flow_shape.specs.Refusals.{chart_of, operator_cause, Fits, AllFit, IsShapeOf, FirstFault, parts_at, written_at, stored_at}
 use Rattle.flow_shape.proofs.Given.{ends}
 use Rattle.flow_shape.proofs.Found.{made}
 use Rattle.flow_shape.proofs.Labels.{link_feeds}
@@ -34,9 +34,10 @@ agree_more : (flow : Flow) (done : List ℕ) (a b : List (List Field)) (x : ℕ)
 agree_more flow done a b x g r s t l h d =
     let into = ready_into flow done a b x g r in
     elim (or_or (is_done done (get_or flow.links l no_link).from) (x == (get_or flow.links l no_link).from) (sym (done_more done x (get_or flow.links l no_link).from) ∙ d)) [
-      inl e ↦ g l h e
-    | inr e ↦ (let same : (get_or flow.links l no_link).from ≡ x = sym (eqb-true x (get_or flow.links l no_link).from e) in
-        s.gives l h same ∙ (same_given flow a b l (subst (AgreeInto flow a b) (sym same) into) ∙ sym (t.gives l h same))) ]
+      | inl e ↦ g l h e
+      | inr e ↦ (let same : (get_or flow.links l no_link).from ≡ x = sym (eqb-true x (get_or flow.links l no_link).from e) in
+          s.gives l h same ∙ (same_given flow a b l (subst (AgreeInto flow a b) (sym same) into) ∙ sym (t.gives l h same)))
+    ]
 
 head_ready : (n : ℕ) (flow : Flow) (done more : List ℕ) (x : ℕ) (rest : List ℕ) → more ≡ x ∷ rest → Follows n flow.links done more → is_ready flow.links done x ≡ true
 head_ready n flow done [] x rest e f = cc e
@@ -132,8 +133,8 @@ same_schemas flow dict c d w x y =
     let a = fit_of flow dict c x in
     let b = fit_of flow dict d y in
     ext_get_or [] c.schemas d.schemas (a.each_link ∙ sym b.each_link) (λ l h.
-      let within : l < length flow.links = omega (arith, h, a.each_link) in
-      agree_all (length flow.ops) flow c.schemas d.schemas [] c.order x.order (nothing flow c.schemas d.schemas) a.fits b.fits l within (x.whole (get_or flow.links l no_link).from (ends flow l w within).0))
+    let within : l < length flow.links = omega (arith, h, a.each_link) in
+    agree_all (length flow.ops) flow c.schemas d.schemas [] c.order x.order (nothing flow c.schemas d.schemas) a.fits b.fits l within (x.whole (get_or flow.links l no_link).from (ends flow l w within).0))
 
 chart_same : (f g : Flow) (s s-2 : List (List Field)) (p p-2 : List OpParts) (r r-2 : List (Option Route)) (o o-2 : List ℕ) (t t-2 : List (Option Stored)) → f ≡ g → s ≡ s-2 → p ≡ p-2 → r ≡ r-2 → o ≡ o-2 → t ≡ t-2 → made f s p r o t ≡ made g s-2 p-2 r-2 o-2 t-2
 chart_same f g s s-2 p p-2 r r-2 o o-2 t t-2 a b c d e h =
@@ -147,7 +148,7 @@ one_shape flow dict c d w x y =
     let routes : Flow → List (List Field) → List (Option Route) = λ f s. map (written_at (chart_of f s)) (range_with_len 0 (length f.links)) in
     let stored : Flow → List (Option Stored) = λ f. map (stored_at dict (chart_of f [])) (range_with_len 0 (length f.ops)) in
     chart_same c.flow d.flow c.schemas d.schemas c.parts d.parts c.written d.written c.order d.order c.stored d.stored flows schemas
-      (x.parts ∙ (ap (λ f. parts f c.schemas) flows ∙ (ap (parts d.flow) schemas ∙ sym y.parts)))
-      (x.written ∙ (ap (λ f. routes f c.schemas) flows ∙ (ap (routes d.flow) schemas ∙ sym y.written)))
-      (one_order (length flow.ops) flow.links c.order d.order x.order y.order)
-      (x.stored ∙ (ap stored flows ∙ sym y.stored))
+    (x.parts ∙ (ap (λ f. parts f c.schemas) flows ∙ (ap (parts d.flow) schemas ∙ sym y.parts)))
+    (x.written ∙ (ap (λ f. routes f c.schemas) flows ∙ (ap (routes d.flow) schemas ∙ sym y.written)))
+    (one_order (length flow.ops) flow.links c.order d.order x.order y.order)
+    (x.stored ∙ (ap stored flows ∙ sym y.stored))

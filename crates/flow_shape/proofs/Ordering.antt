@@ -1,17 +1,17 @@
 -- The topological order has each operator once, and links go forward in it.
-use Rattle.std.proofs.Common.{◌≡◌, ◌≤◌, ◌<◌, ◌+◌, ◌==◌, ◌++◌, ◌∷◌, [], ◌||◌, ◌&&◌, not, ℕ, zero, suc, List, Bool, true, false, cond, refl, sym, ap, ◌∙◌, arith, length, get_or, append-nil, subst, ◌⊎◌, inl, inr, count_by, nat_lt}
-use Rattle.std.specs.List.{AllByRecursion, filter, list_any, range_with_len}
+use Rattle.std.proofs.Common.{◌≡◌, ◌≤◌, ◌<◌, ◌+◌, ◌==◌, ◌++◌, ◌∷◌, [], ◌||◌, not, ℕ, zero, suc, List, Bool, true, false, cond, refl, sym, ap, ◌∙◌, arith, length, get_or, subst, ◌⊎◌, inl, inr, count_by, nat_lt}
+use Rattle.std.specs.List.{AllByRecursion, filter, range_with_len}
 use Rattle.std.specs.List.Sorted.{IsPermutation}
 use Rattle.std.proofs.lemmas.Bool.{eqb-true, eq-eqb, eqb-false, ltb-true, ltb-false}
 use Rattle.std.proofs.lemmas.List.Sums.{sum_by-cons}
 use Rattle.op_base.proofs.Bags.{permutation-from_counts}
-use Rattle.op_base.proofs.ColumnLaws.{in_range, in_bounds}
+use Rattle.op_base.proofs.ColumnLaws.{in_range}
 use Rattle.op_base.specs.Columns.{IsIn, Lies}
 use Rattle.flow_graph.specs.Charts.{Chart, no_link, links_into, links_from}
 use Rattle.flow_graph.specs.declared.flow.LinkSpec.{LinkSpec}
 use Rattle.flow_graph.specs.FlowShape.{ForwardOrder}
 use Rattle.flow_shape.specs.Links.{feeds, is_done, is_ready, Follows, IsOrder, IsWhole}
-use Rattle.flow_shape.proofs.Marks.{or_left, or_right, feeds_at}
+use Rattle.flow_shape.proofs.Marks.{or_right, feeds_at}
 use Rattle.flow_shape.proofs.Orders.{and_parts, or_or, done_more, fed, ready_undone}
 use Rattle.flow_shape.proofs.Same.{range_all}
 use Rattle.flow_shape.proofs.Steps.{done_still}
@@ -118,16 +118,17 @@ Seen c done seen = (l : ℕ) → l < length c.flow.links → is_done done (get_o
 
 seen_more : (c : Chart) (done seen : List ℕ) (o : ℕ) → Seen c done seen → Seen c (done ++ o ∷ []) (links_from c o ++ seen)
 seen_more c done seen o s l h d = elim (or_or (is_done done (get_or c.flow.links l no_link).from) (o == (get_or c.flow.links l no_link).from) (sym (done_more done o (get_or c.flow.links l no_link).from) ∙ d)) [
-    inl e ↦ in_right l (links_from c o) seen (s l h e)
+  | inl e ↦ in_right l (links_from c o) seen (s l h e)
   | inr e ↦ in_left l (links_from c o) seen (in_filtered (λ k. (get_or c.flow.links k no_link).from == o) l (range_with_len 0 (length c.flow.links))
-      (eq-eqb _ o (sym (eqb-true o (get_or c.flow.links l no_link).from e))) (in_range l 0 (length c.flow.links) (omega arith) (omega (arith, h)))) ]
+      (eq-eqb _ o (sym (eqb-true o (get_or c.flow.links l no_link).from e))) (in_range l 0 (length c.flow.links) (omega arith) (omega (arith, h))))
+]
 
 into_seen : (n : ℕ) (c : Chart) (done seen : List ℕ) (o : ℕ) → is_ready c.flow.links done o ≡ true → Seen c done seen → Lies (links_into c o) seen
 into_seen n c done seen o r s = all_filtered (λ k. (get_or c.flow.links k no_link).to == o) (λ k. IsIn k seen) (range_with_len 0 (length c.flow.links))
     (range_all (λ k. ((get_or c.flow.links k no_link).to == o) ≡ true → IsIn k seen) 0 (length c.flow.links) (λ l low high e.
-      let h : l < length c.flow.links = omega (arith, high) in
-      s l h (fed c.flow.links done (get_or c.flow.links l no_link).from o (and_parts (not (is_done done o)) _ r).1
-        (subst (λ x. feeds c.flow.links (get_or c.flow.links l no_link).from x ≡ true) (eqb-true _ o e) (feeds_at c.flow.links l no_link h)))))
+    let h : l < length c.flow.links = omega (arith, high) in
+    s l h (fed c.flow.links done (get_or c.flow.links l no_link).from o (and_parts (not (is_done done o)) _ r).1
+    (subst (λ x. feeds c.flow.links (get_or c.flow.links l no_link).from x ≡ true) (eqb-true _ o e) (feeds_at c.flow.links l no_link h)))))
 
 forward : (n : ℕ) (c : Chart) (done seen order : List ℕ) → Follows n c.flow.links done order → Seen c done seen → ForwardOrder c seen order
 forward n c done seen [] f s = tt

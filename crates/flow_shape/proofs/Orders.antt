@@ -1,8 +1,8 @@
-use Rattle.std.proofs.Common.{◌≡◌, ◌≤◌, ◌<◌, ◌+◌, ◌-◌, ◌++◌, ◌∷◌, [], ◌==◌, ◌||◌, ◌&&◌, not, ℕ, zero, suc, List, Bool, true, false, refl, sym, ap, ◌∙◌, arith, length, append_assoc, append-nil, cond, subst, ◌⊎◌, inl, inr}
-use Rattle.std.specs.List.{list_any, list_all}
-use Rattle.std.proofs.lemmas.Bool.{eqb-true, eq-eqb, ne_eqb, eqb-false}
+use Rattle.std.proofs.Common.{◌≡◌, ◌≤◌, ◌<◌, ◌+◌, ◌++◌, ◌∷◌, [], ◌==◌, ◌||◌, ◌&&◌, not, ℕ, zero, suc, List, Bool, true, false, refl, sym, ap, ◌∙◌, arith, append_assoc, append-nil, cond, subst, ◌⊎◌, inl, inr}
+use Rattle.std.specs.List.{list_all}
+use Rattle.std.proofs.lemmas.Bool.{eqb-true, eqb-false}
 use Rattle.flow_graph.specs.declared.flow.LinkSpec.{LinkSpec}
-use Rattle.flow_shape.specs.Links.{joins, feeds, Way, Reaches, OnCycle, is_done, is_ready, Follows, IsOrder}
+use Rattle.flow_shape.specs.Links.{joins, feeds, Way, OnCycle, is_done, is_ready, Follows, IsOrder}
 use Rattle.flow_shape.specs.Causes.{IsLowest}
 use Rattle.flow_shape.specs.Laws.{OneOrder, OrderedIsFree}
 
@@ -115,8 +115,9 @@ free_ready links done x r free cycle =
 free_next : (links : List LinkSpec) (done : List ℕ) (x : ℕ) → is_ready links done x ≡ true → ((i : ℕ) → is_done done i ≡ true → OnCycle links i → ⊥)
     → (i : ℕ) → is_done (done ++ x ∷ []) i ≡ true → OnCycle links i → ⊥
 free_next links done x r free i d cycle = elim (or_or (is_done done i) (x == i) (sym (done_more done x i) ∙ d)) [
-    inl e ↦ free i e cycle
-  | inr e ↦ free_ready links done x r free (subst (OnCycle links) (sym (eqb-true x i e)) cycle) ]
+  | inl e ↦ free i e cycle
+  | inr e ↦ free_ready links done x r free (subst (OnCycle links) (sym (eqb-true x i e)) cycle)
+]
 
 free_more : (n : ℕ) (links : List LinkSpec) (done more : List ℕ) → Follows n links done more → ((i : ℕ) → is_done done i ≡ true → OnCycle links i → ⊥)
     → (i : ℕ) → is_done (done ++ more) i ≡ true → OnCycle links i → ⊥

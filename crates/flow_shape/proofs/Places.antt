@@ -1,6 +1,6 @@
 -- The place of a name among fields.
-use Rattle.std.proofs.Common.{◌≡◌, ◌≤◌, ◌<◌, ◌+◌, ◌∷◌, [], ℕ, suc, count_by, List, Bool, true, false, not, Option, Some, None, refl, sym, ◌∙◌, cond, arith, length, position, nat_lt}
-use Rattle.std.specs.List.{position_or_len, prefix_len}
+use Rattle.std.proofs.Common.{◌≡◌, ◌≤◌, ◌+◌, ◌∷◌, [], ℕ, suc, count_by, List, Bool, true, false, not, Option, Some, None, refl, ◌∙◌, cond, arith, length, position, nat_lt}
+use Rattle.std.specs.List.{position_or_len}
 use Rattle.std.proofs.lemmas.Bool.{ltb-false}
 use Rattle.std.proofs.lemmas.List.Sums.{sum_by-cons}
 

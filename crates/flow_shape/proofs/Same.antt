@@ -1,11 +1,10 @@
 -- What stands at an operator depends on the fields of the links next to it alone.
-use Rattle.std.proofs.Common.{◌≡◌, ◌≤◌, ◌<◌, ◌+◌, ◌==◌, ◌++◌, ◌∷◌, [], ℕ, zero, suc, List, Bool, true, false, Option, cond, refl, sym, ap, subst, ◌∙◌, arith, length, get_or, map}
+use Rattle.std.proofs.Common.{◌≡◌, ◌≤◌, ◌<◌, ◌+◌, ◌==◌, ◌++◌, ◌∷◌, [], ℕ, zero, suc, List, Bool, true, false, cond, refl, sym, ap, subst, ◌∙◌, arith, length, get_or, map}
 use Rattle.std.specs.List.{filter, range_with_len, AllByRecursion}
 use Rattle.std.proofs.lemmas.Bool.{eqb-true}
 use Rattle.ds_schema.specs.declared.schema.Field.{Field}
 use Rattle.flow_graph.specs.Charts.{no_link, no_op, is_seq}
 use Rattle.flow_graph.specs.declared.flow.Flow.{Flow}
-use Rattle.flow_shape.specs.declared.fault.ShapeWhy.{ShapeWhy}
 use Rattle.flow_shape.specs.Causes.{first_cause}
 use Rattle.flow_shape.specs.Methods.{method_cause}
 use Rattle.flow_shape.specs.Options.{option_causes, output_causes, output_fields}

@@ -1,5 +1,5 @@
 -- Where no cause stands at an operator, none stands at the methods of its inputs or at its options.
-use Rattle.std.proofs.Common.{◌≡◌, ◌≤◌, ◌<◌, ◌+◌, ◌==◌, ◌++◌, ◌∷◌, [], ◌&&◌, not, ℕ, zero, suc, List, Bool, true, false, Option, Some, None, cond, refl, sym, ap, subst, ◌∙◌, arith, length, get_or, map}
+use Rattle.std.proofs.Common.{◌≡◌, ◌≤◌, ◌<◌, ◌+◌, ◌==◌, ◌++◌, ◌∷◌, [], not, ℕ, zero, suc, List, Bool, true, false, Option, Some, None, cond, refl, sym, ap, subst, ◌∙◌, arith, length, get_or, map}
 use Rattle.std.specs.List.{filter, range_with_len, AllByRecursion}
 use Rattle.std.proofs.lemmas.Bool.{eq-eqb, eqb-true, eqb-false}
 use Rattle.ds_schema.specs.declared.schema.Field.{Field}
@@ -11,7 +11,7 @@ use Rattle.flow_shape.specs.declared.fault.ShapeWhy.TheVariants as why
 use Rattle.flow_shape.specs.Causes.{first_cause, cause_if}
 use Rattle.flow_shape.specs.Methods.{may_stand, all_named, kinds_suit, method_cause}
 use Rattle.flow_shape.specs.Options.{first_fields, option_causes, output_causes, IsKnown}
-use Rattle.flow_shape.specs.Refusals.{chart_of, inputs_at, input_cause, operator_cause, Fits}
+use Rattle.flow_shape.specs.Refusals.{chart_of, inputs_at, input_cause, operator_cause}
 use Rattle.flow_shape.proofs.Causing.{own_same}
 
 pub none_both : (xs ys : List (Option ShapeWhy)) → first_cause (xs ++ ys) ≡ None → (first_cause xs ≡ None) × (first_cause ys ≡ None)

@@ -1,5 +1,5 @@
 -- The operators of an order one by one: those before fit, and stay so when the links of the next get their fields.
-use Rattle.std.proofs.Common.{◌≡◌, ◌≤◌, ◌<◌, ◌+◌, ◌==◌, ◌++◌, ◌∷◌, [], ◌||◌, ◌&&◌, not, ℕ, zero, suc, List, Bool, true, false, Option, Some, None, refl, sym, ap, ◌∙◌, arith, length, get_or, take, drop, append_assoc, append-nil, subst, ◌⊎◌, inl, inr}
+use Rattle.std.proofs.Common.{◌≡◌, ◌<◌, ◌+◌, ◌==◌, ◌++◌, ◌∷◌, [], not, ℕ, zero, suc, List, Bool, true, false, Some, None, refl, sym, ap, ◌∙◌, arith, length, get_or, take, drop, append_assoc, append-nil, subst, inl, inr}
 use Rattle.std.specs.List.{AllByRecursion}
 use Rattle.std.proofs.lemmas.Bool.{eqb-true, eq-eqb}
 use Rattle.std.proofs.lemmas.List.{take_more, take-append-drop, drop_more}
@@ -25,8 +25,9 @@ done_still done x c h = done_more done x c ∙ or_left (is_done done c) (x == c)
 
 closed_next : (links : List LinkSpec) (done : List ℕ) (x : ℕ) → is_ready links done x ≡ true → Closed links done → Closed links (done ++ x ∷ [])
 closed_next links done x r closed c j f d = elim (or_or (is_done done j) (x == j) (sym (done_more done x j) ∙ d)) [
-    inl e ↦ done_still done x c (closed c j f e)
-  | inr e ↦ done_still done x c (fed links done c x (and_parts (not (is_done done x)) _ r).1 (subst (λ k. feeds links c k ≡ true) (sym (eqb-true x j e)) f)) ]
+  | inl e ↦ done_still done x c (closed c j f e)
+  | inr e ↦ done_still done x c (fed links done c x (and_parts (not (is_done done x)) _ r).1 (subst (λ k. feeds links c k ≡ true) (sym (eqb-true x j e)) f))
+]
 
 -- the k-th operator of an order, where done are those before it
 pub record Place (n : ℕ) (links : List LinkSpec) (done : List ℕ) (i : ℕ) : Type 0 where
@@ -40,7 +41,7 @@ place_at n k d links done [] f closed h = absurd (omega arith)
 place_at n zero d links done (x ∷ more) f closed h = subst (λ l. Place n links l x) (sym (append-nil done)) (record { within = f.0.0; fresh = ready_undone links done x f.0.1; closed = closed; fed_by = λ c e. fed links done c x (and_parts (not (is_done done x)) _ f.0.1).1 e })
 place_at n (suc k) d links done (x ∷ more) f closed h =
     subst (λ l. Place n links l (get_or more k d)) (append_assoc done (x ∷ []) (take k more))
-      (place_at n k d links (done ++ x ∷ []) more f.1 (closed_next links done x f.0.1 closed) (let e : k < length more = omega arith in e))
+    (place_at n k d links (done ++ x ∷ []) more f.1 (closed_next links done x f.0.1 closed) (let e : k < length more = omega arith in e))
 
 pub place_in : (n k d : ℕ) (links : List LinkSpec) (order : List ℕ) → IsOrder n links order → k < length order → Place n links (take k order) (get_or order k d)
 place_in n k d links order f h = place_at n k d links [] order f (λ c j e g. cc) h
@@ -65,9 +66,10 @@ all_kept : (flow : Flow) (old new : List (List Field)) (done part : List ℕ) (o
     → ((j : ℕ) → is_done part j ≡ true → is_done done j ≡ true) → AllByRecursion (Fits (chart_of flow old)) part → AllByRecursion (Fits (chart_of flow new)) part
 all_kept flow old new done [] o fresh closed g sub t = tt
 all_kept flow old new done (j ∷ part) o fresh closed g sub t =
-    let d = sub j (or_left (j == j) _ (eq-eqb j j refl)) in
-    (same_fit flow old new j (kept_into flow old new done o j fresh (λ c f. closed c j f d) g) (kept_from flow old new done o j fresh d g) t.0,
-     all_kept flow old new done part o fresh closed g (λ k e. sub k (or_right (j == k) _ e)) t.1)
+    let d = sub j (or_left (j == j) _ (eq-eqb j j refl)) in (
+      same_fit flow old new j (kept_into flow old new done o j fresh (λ c f. closed c j f d) g) (kept_from flow old new done o j fresh d g) t.0,
+      all_kept flow old new done part o fresh closed g (λ k e. sub k (or_right (j == k) _ e)) t.1,
+    )
 
 pub all_more : {X : Type 0} (P : X → Type 0) (xs : List X) (y : X) → AllByRecursion P xs → P y → AllByRecursion P (xs ++ y ∷ [])
 all_more P [] y a p = (p, tt)
@@ -87,8 +89,8 @@ pub fit_more : (flow : Flow) (old new : List (List Field)) (order : List ℕ) (k
 fit_more flow old new order k d f h none g t =
     let p = place_in (length flow.ops) k d flow.links order f h in
     rw (take_more order k d h) (all_more (Fits (chart_of flow new)) (take k order) (get_or order k d)
-      (all_kept flow old new (take k order) (take k order) (get_or order k d) p.fresh p.closed g (λ j y. y) t)
-      (fits_now flow old new (take k order) (get_or order k d) p g none))
+    (all_kept flow old new (take k order) (take k order) (get_or order k d) p.fresh p.closed g (λ j y. y) t)
+    (fits_now flow old new (take k order) (get_or order k d) p g none))
 
 pub fault_at : (flow : Flow) (schemas : List (List Field)) (order : List ℕ) (k d : ℕ) (why : ShapeWhy) → IsOrder (length flow.ops) flow.links order → k < length order → operator_cause (chart_of flow schemas) (get_or order k d) ≡ Some why
     → AllByRecursion (Fits (chart_of flow schemas)) (take k order) → FirstFault flow why (get_or order k d)

@@ -1,11 +1,11 @@
 -- Where nothing is ready and something isn't done, an operator is on a cycle.
-use Rattle.std.proofs.Common.{◌≡◌, ◌≤◌, ◌<◌, ◌+◌, ◌-◌, ◌++◌, ◌∷◌, [], ◌==◌, ◌||◌, ◌&&◌, not, ℕ, zero, suc, List, Bool, true, false, refl, sym, ap, ◌∙◌, arith, length, append_assoc, append-nil, cond, subst, ◌⊎◌, inl, inr}
-use Rattle.std.specs.List.{list_any, list_all, AllByRecursion}
+use Rattle.std.proofs.Common.{◌≡◌, ◌≤◌, ◌<◌, ◌+◌, ◌++◌, ◌∷◌, [], ◌==◌, ◌||◌, ◌&&◌, not, ℕ, zero, suc, List, Bool, true, false, refl, sym, ◌∙◌, arith, append_assoc, append-nil, subst, inl, inr}
+use Rattle.std.specs.List.{list_all}
 use Rattle.std.proofs.lemmas.Bool.{eqb-true, eq-eqb, eqb-false}
 use Rattle.flow_graph.specs.declared.flow.LinkSpec.{LinkSpec}
-use Rattle.flow_shape.specs.Links.{joins, feeds, Way, Reaches, OnCycle, AreWithin, is_done, is_ready, Follows, IsOrder, IsWhole}
+use Rattle.flow_shape.specs.Links.{joins, feeds, Reaches, OnCycle, AreWithin, is_done, is_ready, Follows, IsOrder, IsWhole}
 use Rattle.flow_shape.specs.Causes.{HasNone}
-use Rattle.flow_shape.proofs.Orders.{and_parts, or_or, done_more, undone, undone_less, longer}
+use Rattle.flow_shape.proofs.Orders.{or_or, done_more, undone, undone_less, longer}
 use Rattle.flow_shape.proofs.Marks.{or_left, or_right}
 
 or_false : (x y : Bool) → (x || y) ≡ false → (x ≡ false) × (y ≡ false)
@@ -44,13 +44,15 @@ pub record Cycle (n : ℕ) (links : List LinkSpec) : Type 0 where
 
 closes : (n : ℕ) (links : List LinkSpec) (visited : List ℕ) (v c : ℕ) → c < n → feeds links c v ≡ true → ((x : ℕ) → is_done visited x ≡ true → Reaches links v x) → is_done (visited ++ v ∷ []) c ≡ true → Cycle n links
 closes n links visited v c w f r d = elim (or_or (is_done visited c) (v == c) (sym (done_more visited v c) ∙ d)) [
-    inl e ↦ (let way = r c e in record { op = c; within = w; cycle = (suc way.0, longer links c v c (suc way.0) f way.1) })
-  | inr e ↦ record { op = c; within = w; cycle = (0, longer links c v c 0 f (eqb-true v c e)) } ]
+  | inl e ↦ (let way = r c e in record { op = c; within = w; cycle = (suc way.0, longer links c v c (suc way.0) f way.1) })
+  | inr e ↦ record { op = c; within = w; cycle = (0, longer links c v c 0 f (eqb-true v c e)) }
+]
 
 reaches_more : (links : List LinkSpec) (visited : List ℕ) (v c : ℕ) → feeds links c v ≡ true → ((x : ℕ) → is_done visited x ≡ true → Reaches links v x) → (x : ℕ) → is_done (visited ++ v ∷ []) x ≡ true → Reaches links c x
 reaches_more links visited v c f r x d = elim (or_or (is_done visited x) (v == x) (sym (done_more visited v x) ∙ d)) [
-    inl e ↦ (let way = r x e in (suc way.0, longer links c v x (suc way.0) f way.1))
-  | inr e ↦ (0, longer links c v x 0 f (eqb-true v x e)) ]
+  | inl e ↦ (let way = r x e in (suc way.0, longer links c v x (suc way.0) f way.1))
+  | inr e ↦ (0, longer links c v x 0 f (eqb-true v x e))
+]
 
 back_by : (y : Bool) (n : ℕ) (links : List LinkSpec) (visited : List ℕ) (v c : ℕ) → c < n → feeds links c v ≡ true → ((x : ℕ) → is_done visited x ≡ true → Reaches links v x) → is_done (visited ++ v ∷ []) c ≡ y
     → (is_done (visited ++ v ∷ []) c ≡ false → Cycle n links) → Cycle n links
@@ -65,7 +67,7 @@ back (suc m) n links done visited v none w within d fresh r le =
     let p = producer_of n links done v w (waiting (is_done done v) _ (none v within) d) in
     let less = undone_less n visited v within fresh in
     back_by (is_done (visited ++ v ∷ []) p.op) n links visited v p.op p.within p.feeds_it r refl
-      (λ e. back m n links done (visited ++ v ∷ []) p.op none w p.within p.undone_yet e (reaches_more links visited v p.op p.feeds_it r) (let k : undone n (visited ++ v ∷ []) ≤ m = omega arith in k))
+    (λ e. back m n links done (visited ++ v ∷ []) p.op none w p.within p.undone_yet e (reaches_more links visited v p.op p.feeds_it r) (let k : undone n (visited ++ v ∷ []) ≤ m = omega arith in k))
 
 last_of : (n : ℕ) (links : List LinkSpec) (done order : List ℕ) → Follows n links done order → (j : ℕ) → j < n → is_ready links (done ++ order) j ≡ false
 last_of n links done [] f j h = subst (λ l. is_ready links l j ≡ false) (sym (append-nil done)) (f j h)

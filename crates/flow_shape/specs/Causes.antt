@@ -1,5 +1,5 @@
 -- Causes where they stand, and the first of them.
-use Rattle.std.specs.Prelude.{ℕ, ◌≡◌, ◌<◌, Bool, if◌then◌else◌, List, [], ◌∷◌, Option, Some, None}
+use Rattle.std.specs.Prelude.{ℕ, ◌<◌, Bool, if◌then◌else◌, List, [], ◌∷◌, Option, Some, None}
 use Rattle.flow_shape.specs.declared.fault.ShapeWhy.{ShapeWhy}
 
 -- a cause where a test holds

@@ -8,7 +8,7 @@ use Rattle.flow_graph.specs.declared.op_kind.OpKind.TheVariants as kind
 use Rattle.flow_graph.specs.declared.parts.OpParts.{OpParts}
 use Rattle.flow_shape.specs.declared.fault.ShapeWhy.{ShapeWhy}
 use Rattle.flow_shape.specs.declared.fault.ShapeWhy.TheVariants as why
-use Rattle.flow_shape.specs.Causes.{cause_if, first_cause}
+use Rattle.flow_shape.specs.Causes.{cause_if}
 use Rattle.flow_shape.specs.Naming.{has_keys, key_columns, NamesDiffer}
 use Rattle.flow_shape.specs.Widths.{fields_cause}
 

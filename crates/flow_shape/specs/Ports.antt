@@ -1,5 +1,5 @@
 -- How many inputs and outputs an operator may have, and has.
-use Rattle.std.specs.Prelude.{ℕ, ◌≡◌, ◌==◌, ◌+◌, ◌-◌, Bool, true, false, ◌&&◌, nat_le, if◌then◌else◌, List, length, get_or, count_by}
+use Rattle.std.specs.Prelude.{ℕ, ◌≡◌, ◌==◌, ◌+◌, Bool, true, false, ◌&&◌, nat_le, if◌then◌else◌, List, length, get_or, count_by}
 use Rattle.op_base.specs.declared.missing.Missing.{Missing}
 use Rattle.op_base.specs.declared.missing.Missing.TheVariants as missing
 use Rattle.flow_graph.specs.Charts.{no_op}

@@ -14,12 +14,7 @@ use ds_value::{Copied, Name, NoMemory};
 use flow_graph::{Flow, OpKind, OpParts, Route, Stored};
 use std::alloc::Global;
 
-fn parts_at(
-    alloc: Global,
-    flow: &Flow,
-    schemas: &[Schema],
-    op: u32,
-) -> Result<OpParts, NoMemory>
+fn parts_at(alloc: Global, flow: &Flow, schemas: &[Schema], op: u32) -> Result<OpParts, NoMemory>
     requires op { op < length flow.now.ops }
     requires known { HasOnlyKnown flow.now }
     requires differ { HasDistinctKeys flow.now }

@@ -36,12 +36,7 @@ fn give_one(
 }
 
 /// Gives the links that leave an operator their schemas.
-pub fn give(
-    alloc: Global,
-    flow: &Flow,
-    schemas: &mut Vec<Schema>,
-    op: u32,
-) -> Result<(), NoMemory>
+pub fn give(alloc: Global, flow: &Flow, schemas: &mut Vec<Schema>, op: u32) -> Result<(), NoMemory>
     requires known { HasOnlyKnown flow.now }
     requires ports { HasNone (length flow.now.ops) (WrongPorts flow.now) }
     requires within { AreWithin (length flow.now.ops) flow.now.links }

@@ -48,7 +48,11 @@ fn link_cause(flow: &Flow, schemas: &[Schema], op: u32, link: usize) -> Option<S
     if spec.to != op {
         return None;
     }
-    method_cause(is_seq(op_at(flow, op).mark), fields_at(schemas, link), &spec.method)
+    method_cause(
+        is_seq(op_at(flow, op).mark),
+        fields_at(schemas, link),
+        &spec.method,
+    )
 }
 
 /// The first cause at the methods of an operator's inputs.

@@ -21,7 +21,7 @@ mod shaping;
 mod typing;
 mod widths;
 
-pub use shaping::shape;
-pub use sequence::{one_order, ordered_is_free};
 pub use answers::one_answer;
 pub use fault::{ShapeFault, ShapeWhy};
+pub use sequence::{one_order, ordered_is_free};
+pub use shaping::shape;

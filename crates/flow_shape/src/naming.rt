@@ -62,11 +62,7 @@ pub fn columns(alloc: Global, fields: &[Field], names: &[Name]) -> Result<Items<
 }
 
 /// A key list of the columns that the keys name.
-pub fn key_list(
-    alloc: Global,
-    fields: &[Field],
-    keys: &[(Name, bool)],
-) -> Result<KeyList, NoMemory>
+pub fn key_list(alloc: Global, fields: &[Field], keys: &[(Name, bool)]) -> Result<KeyList, NoMemory>
     requires few { length fields.now < 2 ^ 32 }
     requires named { has_keys fields.now keys.now ≡ true }
     requires differ { NamesDiffer keys.now }

@@ -95,11 +95,7 @@ fn operator_keys(alloc: Global, kind: &OpKind, first: &[Field]) -> Result<Items<
 }
 
 /// What the names of an operator's options stand for, where input 0 has these fields.
-pub fn operator_parts(
-    alloc: Global,
-    kind: &OpKind,
-    first: &[Field],
-) -> Result<OpParts, NoMemory>
+pub fn operator_parts(alloc: Global, kind: &OpKind, first: &[Field]) -> Result<OpParts, NoMemory>
     requires few { length first.now < 2 ^ 32 }
     requires known { IsKnown kind.now }
     requires sound { first_cause (option_causes kind.now (first.now ∷ []) ++ output_causes kind.now (first.now ∷ [])) ≡ None }

@@ -106,7 +106,11 @@ fn has_wrong_ports(flow: &Flow, op: u32) -> bool
     ensures { result ≡ not (ports_fit (get_or flow.now.ops op no_op).kind (count_in flow.now.links op) (count_out flow.now.links op)) }
 {
     let links = flow.links.as_slice();
-    !ports_fit(&op_at(flow, op).kind, count_in(links, op), count_out(links, op))
+    !ports_fit(
+        &op_at(flow, op).kind,
+        count_in(links, op),
+        count_out(links, op),
+    )
 }
 
 /// The lowest operator with a wrong number of inputs or outputs.

@@ -123,7 +123,7 @@ same_lanes : {X : Type 0} (f g : ℕ → ℕ → X → ℕ) → ((p t : ℕ) (x 
 same_lanes f g h j p [] = refl
 same_lanes f g h j p (xs ∷ lists) = ap₂ (λ a b. a ∷ b) (same_lane (f p) (g p) (h p) j 0 xs) (same_lanes f g h j (suc p) lists)
 
-map_same : {X Y : Type 0} (f g : X → Y) → ((x : X) → f x ≡ g x) → (xs : List X) → map f xs ≡ map g xs
+pub map_same : {X Y : Type 0} (f g : X → Y) → ((x : X) → f x ≡ g x) → (xs : List X) → map f xs ≡ map g xs
 map_same f g h [] = refl
 map_same f g h (x ∷ xs) = ap₂ (λ a b. a ∷ b) (h x) (map_same f g h xs)
 

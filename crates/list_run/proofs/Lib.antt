@@ -4,3 +4,12 @@ pub mod Feeding
 pub mod Runs
 pub mod Places
 pub mod Routes
+pub mod Links
+pub mod Puts
+pub mod RowsKept
+pub mod Ordered
+pub mod Sizes
+pub mod Standing
+pub mod Legal
+pub mod Inputs
+pub mod Steps

@@ -8,19 +8,25 @@ ghost use Rattle.list_run.specs.Routed.{Joins, SuitsRoute, routed, delivered};
 
 use crate::lanes::{Partitions, by_hash, join, round_robin};
 use crate::work::sort_rows;
-use ds_schema::KeyList;
+use ds_schema::{KeyList, Row};
 use ds_value::{Items, NoMemory};
 use flow_graph::{Choice, Route};
 use std::alloc::Global;
+
+/// One partition.
+pub(crate) fn one_partition(alloc: Global, rows: Items<Row>) -> Result<Partitions, NoMemory>
+    ensures { IfOk result (λ got. got ≡ rows ∷ []) }
+{
+    let mut got = Items::new(alloc);
+    got.push(rows)?;
+    Ok(got)
+}
 
 /// One partition with all of the rows.
 fn collect(alloc: Global, sent: Partitions) -> Result<Partitions, NoMemory>
     ensures { IfOk result (λ got. got ≡ joined sent ∷ []) }
 {
-    let rows = join(alloc, sent)?;
-    let mut got = Items::new(alloc);
-    got.push(rows)?;
-    Ok(got)
+    one_partition(alloc, join(alloc, sent)?)
 }
 
 fn bring(alloc: Global, route: &Route, sequential: bool, sent: Partitions, count: u32) -> Result<Partitions, NoMemory>

@@ -7,7 +7,7 @@ ghost use Rattle.list_run.specs.Dealt.{Deals, dealt, turn_goes};
 ghost use Rattle.list_run.specs.Routed.{SuitsRoute, SuitsPlace, routed};
 
 use ds_place::{Place, partition_of};
-use ds_schema::Row;
+use ds_schema::{Row, copy_row};
 use ds_value::{Copied, Items, NoMemory};
 use flow_graph::Route;
 use std::alloc::Global;
@@ -25,6 +25,27 @@ fn append_rows(into: &mut Items<Row>, rows: Items<Row>) -> Result<(), NoMemory>
     Ok(())
 }
 
+fn copy_rows(alloc: Global, rows: &Items<Row>) -> Result<Items<Row>, NoMemory>
+    ensures { IfOk result (λ copies. copies ≡ rows.now) }
+{
+    let mut copies = Items::new(alloc);
+    for row in rows.as_slice() {
+        copies.push(copy_row(alloc, row)?)?;
+    }
+    Ok(copies)
+}
+
+/// A copy of each row.
+pub(crate) fn copy_partitions(alloc: Global, lists: &Partitions) -> Result<Partitions, NoMemory>
+    ensures { IfOk result (λ copies. copies ≡ lists.now) }
+{
+    let mut copies = Items::new(alloc);
+    for rows in lists.as_slice() {
+        copies.push(copy_rows(alloc, rows)?)?;
+    }
+    Ok(copies)
+}
+
 /// All rows, partition by partition.
 pub(crate) fn join(alloc: Global, sent: Partitions) -> Result<Items<Row>, NoMemory>
     ensures { IfOk result (λ rows. rows ≡ joined sent) }
@@ -36,11 +57,11 @@ pub(crate) fn join(alloc: Global, sent: Partitions) -> Result<Items<Row>, NoMemo
     Ok(all)
 }
 
-/// Partitions without rows.
-fn empty_partitions(alloc: Global, count: u32) -> Result<Vec<Items<Row>>, NoMemory>
+/// So many lists without members.
+pub(crate) fn empty_lists<T: Drop>(alloc: Global, count: usize) -> Result<Vec<Items<T>>, NoMemory>
     ensures { IfOk result (λ lists. lists.items ≡ replicate count []) }
 {
-    let mut lists = Vec::with_capacity(alloc, count as usize)?;
+    let mut lists = Vec::with_capacity(alloc, count)?;
     for _ in 0..count {
         lists.push(Items::new(alloc))?;
     }
@@ -83,7 +104,7 @@ pub(crate) fn round_robin(alloc: Global, sent: Partitions, count: u32) -> Result
     requires { 0 < count }
     ensures { IfOk result (λ got. got ≡ dealt (λ p t r. (p + t) % count) count sent) }
 {
-    let mut lists = empty_partitions(alloc, count)?;
+    let mut lists = empty_lists(alloc, count as usize)?;
     let mut first = 0;
     for rows in sent.into_vec() {
         deal_in_turn(first, rows, &mut lists, count)?;
@@ -112,7 +133,7 @@ fn by_place(alloc: Global, place: &Place, sent: Partitions, count: u32) -> Resul
     requires rows { All (All (SuitsPlace place.now)) sent }
     ensures { IfOk result (λ got. got ≡ dealt (λ p t r. place_number place.now r count) count sent) }
 {
-    let mut lists = empty_partitions(alloc, count)?;
+    let mut lists = empty_lists(alloc, count as usize)?;
     for rows in sent.into_vec() {
         deal_by_place(place, rows, &mut lists, count)?;
     }

@@ -2,8 +2,13 @@
 #![tactic(auto)]
 
 pub mod delivery;
+mod held;
 mod lanes;
+mod ran;
+mod run;
 mod whole;
 pub mod work;
 
 pub use lanes::Partitions;
+pub use ran::Ran;
+pub use run::run_lists;

@@ -1,12 +1,13 @@
 //! What operators make of the rows of one partition.
 
-ghost use Rattle.std.specs.Prelude.{◌≡◌, ◌∷◌, [], IfOk};
+ghost use Rattle.std.specs.Prelude.{◌≡◌, ◌∷◌, [], IfOk, map};
 ghost use Rattle.ds_schema.specs.Rows.{cols, ways};
 ghost use Rattle.op_base.specs.Feeds.{by_runs};
 ghost use Rattle.op_base.specs.Keyed.{arranged, get_keys};
 ghost use Rattle.op_base.specs.Meanings.{one_row, input};
 ghost use Rattle.list_run.specs.Made.{made};
 
+use crate::lanes::Partitions;
 use crate::whole::run_whole;
 use ds_schema::{KeyList, Row};
 use ds_value::{Items, NoMemory};
@@ -49,4 +50,15 @@ pub(crate) fn work_on(alloc: Global, kind: &OpKind, parts: &OpParts, rows: Items
         OpKind::Remdup { last, .. } => keep_one(alloc, first_keys(alloc, parts)?, *last, rows),
         _ => Ok(rows),
     }
+}
+
+/// The same of each partition.
+pub(crate) fn work_on_each(alloc: Global, kind: &OpKind, parts: &OpParts, lists: Partitions) -> Result<Partitions, NoMemory>
+    ensures { IfOk result (λ given. given ≡ map (made kind.now parts.now.keys) lists) }
+{
+    let mut given = Items::new(alloc);
+    for rows in lists.into_vec() {
+        given.push(work_on(alloc, kind, parts, rows)?)?;
+    }
+    Ok(given)
 }

@@ -1,4 +1,4 @@
-use Rattle.std.proofs.Common.{◌≡◌, ℕ, true, false, get_or, sym, ◌∙◌, length, subst}
+use Rattle.std.proofs.Common.{◌≡◌, false, get_or, sym, ◌∙◌, length}
 use Rattle.flow_shape.specs.Links.{AreWithin}
 use Rattle.flow_shape.proofs.Marks.{all_reached}
 use Rattle.flow_shape.proofs.cycle.is_on_cycle.Goals as goal

@@ -1,5 +1,4 @@
-use Rattle.std.proofs.Common.{◌≡◌, ◌<◌, ℕ, true, false, Some, None, get_or, set, length, sym, ◌∙◌, length-set}
-use Rattle.flow_shape.specs.Links.{is_open, Reaches}
+use Rattle.std.proofs.Common.{◌<◌, true, get_or, set, sym, ◌∙◌, length-set}
 use Rattle.flow_graph.specs.declared.flow.LinkSpec.{LinkSpec}
 use Rattle.flow_shape.proofs.Marks.{unmarked, unmarked_less, within_marks, marked, open_end, open_at, none_open}
 use Rattle.flow_shape.proofs.cycle.reached.Goals as goal
@@ -17,7 +16,7 @@ loop-k-smaller c =
     let place = rw c.as_slice.ensures.value at c.in-Some.ensures.place in
     let o = open_at c.args.start c.loop-k.marks.items c.args.links.now c.in-Some.k d (sym place) in
     let less : unmarked (set c.loop-k.marks.items (get_or c.args.links.now c.in-Some.k d).to true) < unmarked c.loop-k.marks.items =
-      unmarked_less c.loop-k.marks.items _ (open_end c.args.start c.loop-k.marks.items (get_or c.args.links.now c.in-Some.k d) o) in
+    unmarked_less c.loop-k.marks.items _ (open_end c.args.start c.loop-k.marks.items (get_or c.args.links.now c.in-Some.k d) o) in
     less
 
 pub loop-k-preserved : goal.loop-k-preserved

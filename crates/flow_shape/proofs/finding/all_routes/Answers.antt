@@ -1,4 +1,4 @@
-use Rattle.std.proofs.Common.{◌≡◌, ◌≤◌, [], length, get_or, below_more}
+use Rattle.std.proofs.Common.{◌≤◌, [], length, get_or, below_more}
 use Rattle.flow_shape.specs.Refusals.{chart_of, written_at}
 use Rattle.flow_shape.proofs.Listing.{listed}
 use Rattle.flow_shape.proofs.finding.all_routes.Goals as goal

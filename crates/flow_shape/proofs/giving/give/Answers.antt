@@ -1,4 +1,4 @@
-use Rattle.std.proofs.Common.{◌≡◌, ◌<◌, arith, ap, length}
+use Rattle.std.proofs.Common.{arith, ap, length}
 use Rattle.flow_shape.proofs.Labels.{given_next}
 use Rattle.flow_shape.proofs.giving.give.Goals as goal
 

@@ -1,5 +1,4 @@
-use Rattle.std.proofs.Common.{◌≡◌, ◌<◌, ap, sym, ◌∙◌, length, subst, position, Some, None, ◌==◌}
-use Rattle.flow_graph.specs.declared.flow.LinkSpec.{LinkSpec}
+use Rattle.std.proofs.Common.{sym, ◌∙◌}
 use Rattle.flow_shape.proofs.Entries.{first_at, none_at}
 use Rattle.flow_shape.proofs.inputs.first_fields.Goals as goal
 

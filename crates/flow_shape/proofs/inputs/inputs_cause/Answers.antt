@@ -1,4 +1,4 @@
-use Rattle.std.proofs.Common.{◌≡◌, ◌≤◌, ◌<◌, arith, ap, sym, ◌∙◌, length}
+use Rattle.std.proofs.Common.{arith, ap, sym, length}
 use Rattle.flow_shape.proofs.Entries.{cause_at, cause_none}
 use Rattle.flow_shape.proofs.inputs.inputs_cause.Goals as goal
 

@@ -8,5 +8,5 @@ use Rattle.flow_shape.proofs.naming.key_list.Goals as goal
 pub from_vec-requires : goal.from_vec-requires
 from_vec-requires c =
     let whole : c.loop-name.list.items ≡ key_columns c.args.fields.now c.args.keys.now =
-      c.loop-name.invariant ∙ ap (key_columns c.args.fields.now) (take_all c.loop-name.name-index c.args.keys.now c.loop-name-test.false) in
+    c.loop-name.invariant ∙ ap (key_columns c.args.fields.now) (take_all c.loop-name.name-index c.args.keys.now c.loop-name-test.false) in
     subst KeysDiffer (sym whole) (keys_differ c.args.fields.now c.args.keys.now c.requires.named c.requires.differ)

@@ -1,5 +1,4 @@
-use Rattle.std.proofs.Common.{◌≡◌, Some, None, sym, ap, ◌∙◌, refl}
-use Rattle.flow_shape.specs.declared.fault.ShapeWhy.{ShapeWhy}
+use Rattle.std.proofs.Common.{Some, None, refl}
 use Rattle.flow_shape.proofs.Causing.{known_at, cause_parts}
 use Rattle.flow_shape.proofs.operator.operator_cause.Goals as goal
 

@@ -1,4 +1,4 @@
-use Rattle.std.proofs.Common.{◌≡◌, ◌<◌, ◌==◌, [], arith, ap, sym, ◌∙◌, length, get_or}
+use Rattle.std.proofs.Common.{◌<◌, ◌==◌, [], arith, sym, ◌∙◌, length}
 use Rattle.std.proofs.lemmas.List.{get_or_default}
 use Rattle.flow_graph.specs.declared.flow.LinkSpec.{LinkSpec}
 use Rattle.flow_shape.proofs.Entries.{first_at}
@@ -17,4 +17,4 @@ returns c =
     let within = rw c.as_slice.ensures at c.in-Some.ensures.within in
     let there : c.in-Some.link < length c.args.schemas.now = omega (arith, within, c.requires.each_link) in
     c.index-schemas-link.is ∙ (get_or_default c.args.schemas.now c.in-Some.link c.index-schemas-link.result [] there
-      ∙ first_at c.args.flow.now c.args.schemas.now c.args.op c.in-Some.link (sym place) within)
+    ∙ first_at c.args.flow.now c.args.schemas.now c.args.op c.in-Some.link (sym place) within)

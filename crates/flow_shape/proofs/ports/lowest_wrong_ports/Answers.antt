@@ -1,4 +1,4 @@
-use Rattle.std.proofs.Common.{◌≡◌, true, false, not, ap, sym, ◌∙◌}
+use Rattle.std.proofs.Common.{not, ap, sym, ◌∙◌}
 use Rattle.flow_shape.specs.Ports.{WrongPorts}
 use Rattle.flow_shape.proofs.Stuck.{below_more}
 use Rattle.flow_shape.proofs.ports.lowest_wrong_ports.Goals as goal

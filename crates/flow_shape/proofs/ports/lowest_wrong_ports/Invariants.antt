@@ -1,4 +1,4 @@
-use Rattle.std.proofs.Common.{◌≡◌, ◌<◌, ℕ}
+use Rattle.std.proofs.Common.{◌<◌, ℕ}
 use Rattle.flow_shape.specs.Ports.{WrongPorts}
 use Rattle.flow_shape.proofs.ports.lowest_wrong_ports.Given as goal
 

@@ -1,4 +1,3 @@
-use Rattle.std.proofs.Common.{◌≡◌}
 use Rattle.flow_shape.proofs.Found.{Finds, is_shape, is_shape_of}
 use Rattle.flow_shape.proofs.shaping.found.Goals as goal
 

@@ -1,4 +1,4 @@
-use Rattle.std.proofs.Common.{◌≡◌, refl, inl, inr}
+use Rattle.std.proofs.Common.{refl, inl, inr}
 use Rattle.flow_shape.proofs.shaping.ordered.Goals as goal
 
 pub returns-in-Some-2-clause-bad : goal.returns-in-Some-2-clause-bad

@@ -1,4 +1,4 @@
-use Rattle.std.proofs.Common.{◌≡◌, length, refl, inl, inr}
+use Rattle.std.proofs.Common.{refl, inr}
 use Rattle.flow_shape.proofs.Fitting.{all_fit}
 use Rattle.flow_shape.proofs.shaping.unclashing.Goals as goal
 

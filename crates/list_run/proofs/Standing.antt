@@ -1,0 +1,150 @@
+-- What stands after some turns stands after one more.
+use Rattle.std.proofs.Common.{◌≡◌, ◌≢◌, ◌⊎◌, inl, inr, ℕ, zero, suc, ◌+◌, ◌<◌, ◌≤◌, Bool, true, false, refl, sym, ap, ◌∙◌, subst, List, [], ◌∷◌, ◌++◌, length, take, get_or, All, Option, Some, None, arith}
+use Rattle.std.specs.List.{AllByRecursion}
+use Rattle.std.proofs.lemmas.Bool.Decides.{eqb_tells}
+use Rattle.std.proofs.lemmas.List.Elements.{All-from_recursion}
+use Rattle.ds_value.specs.Canonical.{IsShort}
+use Rattle.ds_schema.specs.Rows.{InWidth, cols}
+use Rattle.op_base.specs.Columns.{Row, IsIn, Lies, all_columns}
+use Rattle.flow_graph.specs.declared.op_kind.OpKind.{OpKind}
+use Rattle.flow_graph.specs.declared.op_kind.OpKind.TheVariants as kind
+use Rattle.flow_graph.specs.declared.route.Route.{Route}
+use Rattle.flow_graph.specs.declared.route.Route.TheVariants as route
+use Rattle.flow_graph.specs.declared.route.Choice.{Choice}
+use Rattle.flow_graph.specs.Charts.{Chart, link_at, links_into, links_from, op_at, keys_at, into_seq, width_at}
+use Rattle.flow_graph.specs.FlowShape.{ForwardOrder, WrittenFits}
+use Rattle.flow_graph.specs.Runs.{RouteFits}
+use Rattle.flow_rules.specs.Verdicts.{choice_at, written_or_same}
+use Rattle.list_run.specs.declared.held.Held.{Held}
+use Rattle.list_run.specs.Held.{HasRoom, MaySend, Steps, sent_by, sent_on, got_on}
+use Rattle.list_run.specs.Routed.{Joins, SuitsRoute}
+use Rattle.list_run.specs.Runnable.{degree_at, first_into, row_count, IsBuilt, IsExport, IsRow, IsRunnable}
+use Rattle.list_run.specs.Turns.{HadTurn, Stands, got_in, sent_in}
+use Rattle.list_run.proofs.Inputs.{first_member, only_input, ports_at}
+use Rattle.list_run.proofs.Links.{all_in, in_from, in_into}
+use Rattle.list_run.proofs.Ordered.{in_either, not_before, turn_more, turn_before, turn_now}
+use Rattle.list_run.proofs.RowsKept.{Each}
+use Rattle.list_run.proofs.Sizes.{Fed, fed_as, lies_in, same_sent, sent_again, got_means, all_fit, input_seen, built_order}
+
+-- the inputs of the n-th operator leave operators that had their turns
+forward_at : (c : Chart) (seen order : List ℕ) → ForwardOrder c seen order → (n : ℕ) → n < length order → (l : ℕ) → IsIn l (links_into c (get_or order n 0)) → IsIn l seen ⊎ IsIn (link_at c l).from (take n order)
+forward_at c seen [] f n m l i = absurd (omega (arith, m))
+forward_at c seen (o ∷ order) f zero m l i = inl (lies_in (links_into c o) seen l f.0 i)
+forward_at c seen (o ∷ order) f (suc n) m l i = go (forward_at c (links_from c o ++ seen) order f.1 n (omega (arith, m)) l i)
+  where
+    either : (IsIn l (links_from c o) ⊎ IsIn l seen) → IsIn l seen ⊎ IsIn (link_at c l).from (o ∷ take n order)
+    either (inl j) = inr (inl (in_from c o l j).1)
+    either (inr j) = inl j
+
+    go : (IsIn l (links_from c o ++ seen) ⊎ IsIn (link_at c l).from (take n order)) → IsIn l seen ⊎ IsIn (link_at c l).from (o ∷ take n order)
+    go (inl j) = either (in_either l (links_from c o) seen j)
+    go (inr j) = inr (inr j)
+
+pub input_had : (c : Chart) → ForwardOrder c [] c.order → (n : ℕ) → n < length c.order → (l : ℕ) → IsIn l (links_into c (get_or c.order n 0)) → HadTurn c n (link_at c l).from
+input_had c f n m l i = go (forward_at c [] c.order f n m l i)
+  where
+    go : IsIn l [] ⊎ IsIn (link_at c l).from (take n c.order) → HadTurn c n (link_at c l).from
+    go (inl j) = absurd j
+    go (inr j) = j
+
+lies_self : (xs ys : List ℕ) → ((x : ℕ) → IsIn x xs → IsIn x ys) → Lies xs ys
+lies_self [] ys h = tt
+lies_self (x ∷ xs) ys h = (h x (inl refl), lies_self xs ys (λ z i. h z (inr i)))
+
+-- what waits for the n-th operator, if it has an input
+pub waits_for : (c : Chart) (choices : List Choice) (nodes : ℕ) (given : List (List Row)) (n : ℕ) (rest : List (List Row)) (held : Held) → IsRunnable c choices nodes given → n < length c.order → get_or c.order n 0 < length c.flow.ops → Stands c nodes given n rest held →
+    Fed (op_at c (get_or c.order n 0)).kind (get_or held.waiting.items (first_into c (get_or c.order n 0)) [] ≡ got_in c nodes given (first_into c (get_or c.order n 0)))
+waits_for c choices nodes given n rest held r m b stands =
+    let o = get_or c.order n 0 in
+    fed_as (op_at c o).kind (IsIn (first_into c o) (links_into c o)) _ (λ i.
+        let k = in_into c o (first_into c o) i in
+        stands.waiting (first_into c o) k.0 (input_had c r.shape.order.forward n m (first_into c o) i) (λ h. not_before c r.shape.order n m (subst (HadTurn c n) k.1 h)))
+    (input_seen c o (op_at c o).kind r.shape b refl (r.built o b) (links_into c o) (lies_self (links_into c o) (links_into c o) (λ x i. i)))
+
+-- what it sends is what is sent in the end
+pub held_sent : (c : Chart) (choices : List Choice) (nodes : ℕ) (given : List (List Row)) (n : ℕ) (rest : List (List Row)) (held : Held) → IsRunnable c choices nodes given → n < length c.order → get_or c.order n 0 < length c.flow.ops → Stands c nodes given n rest held →
+    (l : ℕ) → l < length c.flow.links → (link_at c l).from ≡ get_or c.order n 0 → sent_on c (λ i. get_or held.waiting.items i []) (λ i. get_or rest i []) l ≡ sent_in c nodes given l
+held_sent c choices nodes given n rest held r m b stands l k e =
+    let o = get_or c.order n 0 in
+    ap (λ p. sent_by (op_at c p).kind (keys_at c p) (get_or held.waiting.items (first_into c p) []) (get_or rest l [])) e
+    ∙ same_sent c o (op_at c o).kind (r.built o b) (keys_at c o) (get_or held.waiting.items (first_into c o) []) (got_in c nodes given (first_into c o)) (get_or rest l []) (get_or given l []) (waits_for c choices nodes given n rest held r m b stands)
+        (stands.rest_is l k (λ h. not_before c r.shape.order n m (subst (HadTurn c n) e h)))
+    ∙ sym (ap (λ p. sent_by (op_at c p).kind (keys_at c p) (got_in c nodes given (first_into c p)) (get_or given l [])) e)
+
+-- rows suit the routes that are written
+suits_row : (m : Route) (w : ℕ) → RouteFits w m → (r : Row) → IsRow w r → SuitsRoute m r
+suits_row route.Same w f r h = tt
+suits_row route.RoundRobin w f r h = tt
+suits_row route.Entire w f r h = tt
+suits_row (route.Hash K) w f r h = (All-from_recursion (InWidth r) K (columns K f), h.1)
+  where
+    columns : (cs : List ℕ) → Lies cs (all_columns w) → AllByRecursion (InWidth r) cs
+    columns [] l = tt
+    columns (x ∷ cs) l = (subst (λ n. x < n) (sym h.0) (all_in w x l.0), columns cs l.1)
+suits_row (route.Modulus x) w f r h = tt
+suits_row route.Any w f r h = tt
+suits_row route.Ordered w f r h = tt
+suits_row (route.Merge keys) w f r h = tt
+
+suits_list : (m : Route) (w : ℕ) → RouteFits w m → (rows : List Row) → AllByRecursion (IsRow w) rows → AllByRecursion (SuitsRoute m) rows
+suits_list m w f [] h = tt
+suits_list m w f (r ∷ rows) h = (suits_row m w f r h.0, suits_list m w f rows h.1)
+
+suits_lists : (m : Route) (w : ℕ) → RouteFits w m → (lists : List (List Row)) → Each (IsRow w) lists → AllByRecursion (All (SuitsRoute m)) lists
+suits_lists m w f [] h = tt
+suits_lists m w f (rows ∷ lists) h = (All-from_recursion (SuitsRoute m) rows (suits_list m w f rows h.0), suits_lists m w f lists h.1)
+
+route_fits : (seq : Bool) (w : ℕ) (m : Option Route) → WrittenFits seq w m → RouteFits w (written_or_same m)
+route_fits seq w None f = tt
+route_fits seq w (Some route.Same) f = tt
+route_fits seq w (Some route.RoundRobin) f = tt
+route_fits seq w (Some route.Entire) f = tt
+route_fits seq w (Some (route.Hash K)) f = f.1
+route_fits seq w (Some (route.Modulus x)) f = f.1
+route_fits seq w (Some route.Any) f = tt
+route_fits seq w (Some route.Ordered) f = tt
+route_fits seq w (Some (route.Merge keys)) f = tt
+
+pub may_send : (c : Chart) (choices : List Choice) (nodes : ℕ) (given : List (List Row)) (n : ℕ) (rest : List (List Row)) (held : Held) → IsRunnable c choices nodes given → n < length c.order → get_or c.order n 0 < length c.flow.ops → Stands c nodes given n rest held →
+    MaySend c nodes (get_or c.order n 0) (sent_on c (λ i. get_or held.waiting.items i []) (λ i. get_or rest i []))
+may_send c choices nodes given n rest held r m b stands = λ l k e.
+    let fits = (all_fit c choices nodes given r l k).0 in
+    let route = route_fits (into_seq c l) (width_at c l) (get_or c.written l None) (r.shape.links l k).written in
+    let P : List (List Row) → Type 0 = λ s. Joins (into_seq c l) (choice_at c l).method (length s) (degree_at c nodes (link_at c l).to) × All (All (SuitsRoute (choice_at c l).method)) s in
+    subst P (sym (held_sent c choices nodes given n rest held r m b stands l k e)) (
+      subst (λ d. Joins (into_seq c l) (choice_at c l).method d (degree_at c nodes (link_at c l).to)) (sym fits.0) (r.joins l k),
+      All-from_recursion (All (SuitsRoute (choice_at c l).method)) (sent_in c nodes given l) (suits_lists (choice_at c l).method (width_at c l) route (sent_in c nodes given l) fits.1),
+    )
+
+export_fed : (k : OpKind) (P : Type 0) → IsExport k → Fed k P → P
+export_fed (kind.Export file delim fixed) P e h = h
+export_fed k P e h = absurd e
+
+-- one more turn
+pub stands_next : (c : Chart) (choices : List Choice) (nodes : ℕ) (given : List (List Row)) (n : ℕ) (rest after : List (List Row)) (held new : Held) → IsRunnable c choices nodes given → n < length c.order → get_or c.order n 0 < length c.flow.ops → Stands c nodes given n rest held →
+    Steps c nodes (get_or c.order n 0) rest after held new → Stands c nodes given (n + 1) after new
+stands_next c choices nodes given n rest after held new r m b stands steps = record {
+  room = steps.room;
+  waiting = λ l k f t. waits l k t (turn_more c n (link_at c l).from m f);
+  counts = λ l k f. counted l k (turn_more c n (link_at c l).from m f);
+  rest_is = λ l k f. steps.kept_given l k (λ e. f (subst (HadTurn c (n + 1)) (sym e) (turn_now c n m))) ∙ stands.rest_is l k (λ h. f (turn_before c n (link_at c l).from m h));
+  sinks = λ p h e. kept p e (turn_more c n p m h);
+}
+  where
+    other : (p : ℕ) → HadTurn c n p → p ≢ get_or c.order n 0
+    other p h e = not_before c r.shape.order n m (subst (HadTurn c n) e h)
+
+    waits : (l : ℕ) → l < length c.flow.links → (HadTurn c (n + 1) (link_at c l).to → ⊥) → HadTurn c n (link_at c l).from ⊎ ((link_at c l).from ≡ get_or c.order n 0) → get_or new.waiting.items l [] ≡ got_in c nodes given l
+    waits l k t (inl h) = steps.kept l k (other (link_at c l).from h) (λ e. t (subst (HadTurn c (n + 1)) (sym e) (turn_now c n m))) ∙ stands.waiting l k h (λ u. t (turn_before c n (link_at c l).to m u))
+    waits l k t (inr e) = steps.waiting l k e ∙ ap (got_on c nodes l) (held_sent c choices nodes given n rest held r m b stands l k e) ∙ sym (got_means c choices nodes given r l k)
+
+    counted : (l : ℕ) → l < length c.flow.links → HadTurn c n (link_at c l).from ⊎ ((link_at c l).from ≡ get_or c.order n 0) → get_or new.counts.items l 0 ≡ row_count (sent_in c nodes given l)
+    counted l k (inl h) = steps.kept_counts l k (other (link_at c l).from h) ∙ stands.counts l k h
+    counted l k (inr e) = steps.counts l k e ∙ ap row_count (held_sent c choices nodes given n rest held r m b stands l k e)
+
+    kept : (p : ℕ) → IsExport (op_at c p).kind → HadTurn c n p ⊎ (p ≡ get_or c.order n 0) → get_or new.sinks.items p [] ≡ got_in c nodes given (first_into c p)
+    kept p e (inl h) = steps.kept_sinks p (other p h) ∙ stands.sinks p h e
+    kept p e (inr q) =
+        let e' = subst (λ o. IsExport (op_at c o).kind) q e in
+        subst (λ o. get_or new.sinks.items o [] ≡ got_in c nodes given (first_into c o)) (sym q)
+        (steps.sink e' ∙ export_fed (op_at c (get_or c.order n 0)).kind _ e' (waits_for c choices nodes given n rest held r m b stands))

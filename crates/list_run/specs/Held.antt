@@ -1,0 +1,78 @@
+-- Lists on their way: what one operator does with those that are held.
+use Rattle.std.specs.Prelude.{◌≡◌, ◌≢◌, ℕ, ◌<◌, ◌==◌, Bool, true, false, cond, List, [], ◌∷◌, length, map, get_or, set, nat_lt, All}
+use Rattle.ds_schema.specs.declared.key.Key.{Key}
+use Rattle.op_base.specs.Columns.{Row}
+use Rattle.flow_graph.specs.declared.op_kind.OpKind.{OpKind}
+use Rattle.flow_graph.specs.declared.op_kind.OpKind.TheVariants as kind
+use Rattle.flow_graph.specs.Charts.{Chart, link_at, op_at, keys_at, into_seq}
+use Rattle.flow_rules.specs.Verdicts.{choice_at}
+use Rattle.list_run.specs.declared.held.Held.{Held}
+use Rattle.list_run.specs.Made.{made}
+use Rattle.list_run.specs.Routed.{Joins, SuitsRoute, delivered}
+use Rattle.list_run.specs.Runnable.{degree_at, first_into, row_count, IsExport}
+
+-- what a link's producer puts on it, of the partitions that came at the producer and of the rows that are given for the link
+abbrev pub sent_by : OpKind → List (List Key) → List (List Row) → List Row → List (List Row)
+sent_by (kind.Import file schema delim fixed reject) keys parts rows = rows ∷ []
+sent_by k keys parts rows = map (made k keys) parts
+
+abbrev pub sent_on : Chart → (ℕ → List (List Row)) → (ℕ → List Row) → ℕ → List (List Row)
+sent_on c got given l = sent_by (op_at c (link_at c l).from).kind (keys_at c (link_at c l).from) (got (first_into c (link_at c l).from)) (given l)
+
+-- and what comes of it
+abbrev pub got_on : Chart → ℕ → ℕ → List (List Row) → List (List Row)
+got_on c nodes l sent = delivered (choice_at c l) (degree_at c nodes (link_at c l).to) sent
+
+-- there is a place for each link and each operator
+pub record HasRoom (c : Chart) (held : Held) : Type 0 where
+  pub waiting : length held.waiting.items ≡ length c.flow.links
+  pub counts : length held.counts.items ≡ length c.flow.links
+  pub sinks : length held.sinks.items ≡ length c.flow.ops
+
+-- some links are put: what comes of what was sent on them waits, and its rows are counted
+pub record Puts (c : Chart) (nodes : ℕ) (takes : ℕ → Bool) (sent : ℕ → List (List Row)) (old new : Held) : Type 0 where
+  pub room : HasRoom c new
+  pub waiting : (l : ℕ) → l < length c.flow.links → takes l ≡ true → get_or new.waiting.items l [] ≡ got_on c nodes l (sent l)
+  pub counts : (l : ℕ) → l < length c.flow.links → takes l ≡ true → get_or new.counts.items l 0 ≡ row_count (sent l)
+  pub kept : (l : ℕ) → takes l ≡ false → get_or new.waiting.items l [] ≡ get_or old.waiting.items l []
+  pub kept_counts : (l : ℕ) → takes l ≡ false → get_or new.counts.items l 0 ≡ get_or old.counts.items l 0
+  pub sinks : new.sinks.items ≡ old.sinks.items
+
+-- what an operator sends may go on each link that leaves it
+abbrev pub MaySend : Chart → ℕ → ℕ → (ℕ → List (List Row)) → Type 0
+MaySend c nodes o sent = (l : ℕ) → l < length c.flow.links → (link_at c l).from ≡ o → Joins (into_seq c l) (choice_at c l).method (length (sent l)) (degree_at c nodes (link_at c l).to) × All (All (SuitsRoute (choice_at c l).method)) (sent l)
+
+abbrev pub leaves : Chart → ℕ → ℕ → Bool
+leaves c o l = (link_at c l).from == o
+
+-- the links that leave an operator, but one
+abbrev pub leaves_but : Chart → ℕ → ℕ → ℕ → Bool
+leaves_but c o last l = cond (l == last) false (leaves c o l)
+
+-- what waited at an input is taken, and some links are put
+pub record Moves (c : Chart) (nodes input : ℕ) (takes : ℕ → Bool) (sent : ℕ → List (List Row)) (old new : Held) : Type 0 where
+  pub mid : Held
+  pub taken : mid.waiting.items ≡ set old.waiting.items input []
+  pub counts : mid.counts.items ≡ old.counts.items
+  pub sinks : mid.sinks.items ≡ old.sinks.items
+  pub puts : Puts c nodes takes sent mid new
+
+-- the links that leave an operator
+abbrev pub outputs : Chart → ℕ → ℕ → Bool
+outputs c o l = cond (nat_lt l (length c.flow.links)) (leaves c o l) false
+
+-- what a copy, a tsort or a remdup makes of what waits at its input
+abbrev pub made_at : Chart → ℕ → Held → List (List Row)
+made_at c o held = map (made (op_at c o).kind (keys_at c o)) (get_or held.waiting.items (first_into c o) [])
+
+-- an operator has its turn
+pub record Steps (c : Chart) (nodes o : ℕ) (before after : List (List Row)) (old new : Held) : Type 0 where
+  pub room : HasRoom c new
+  pub given : length after ≡ length before
+  pub waiting : (l : ℕ) → l < length c.flow.links → (link_at c l).from ≡ o → get_or new.waiting.items l [] ≡ got_on c nodes l (sent_on c (λ i. get_or old.waiting.items i []) (λ i. get_or before i []) l)
+  pub counts : (l : ℕ) → l < length c.flow.links → (link_at c l).from ≡ o → get_or new.counts.items l 0 ≡ row_count (sent_on c (λ i. get_or old.waiting.items i []) (λ i. get_or before i []) l)
+  pub kept : (l : ℕ) → l < length c.flow.links → (link_at c l).from ≢ o → (link_at c l).to ≢ o → get_or new.waiting.items l [] ≡ get_or old.waiting.items l []
+  pub kept_counts : (l : ℕ) → l < length c.flow.links → (link_at c l).from ≢ o → get_or new.counts.items l 0 ≡ get_or old.counts.items l 0
+  pub kept_given : (l : ℕ) → l < length c.flow.links → (link_at c l).from ≢ o → get_or after l [] ≡ get_or before l []
+  pub sink : IsExport (op_at c o).kind → get_or new.sinks.items o [] ≡ get_or old.waiting.items (first_into c o) []
+  pub kept_sinks : (p : ℕ) → p ≢ o → get_or new.sinks.items p [] ≡ get_or old.sinks.items p []

@@ -1,0 +1,85 @@
+-- The flows that are run here, the operators of such a flow, and what a run leaves.
+use Rattle.std.specs.Prelude.{◌≡◌, ℕ, ◌<◌, ◌-◌, ◌^◌, min, Bool, true, false, cond, List, [], ◌∷◌, length, map, get_or, All, ⊤}
+use Rattle.std.specs.List.{AllByRecursion}
+use Rattle.ds_value.specs.Canonical.{IsShort}
+use Rattle.op_base.specs.declared.fault.Fault.{Fault}
+use Rattle.op_base.specs.Columns.{Row, IsIn}
+use Rattle.op_base.specs.Keyed.{get_keys}
+use Rattle.op_base.specs.Lists.{joined}
+use Rattle.op_base.specs.Meanings.{Line}
+use Rattle.op_base.specs.RowOperators.{copy_rule, sink_rule}
+use Rattle.flow_graph.specs.declared.op_kind.OpKind.{OpKind}
+use Rattle.flow_graph.specs.declared.op_kind.OpKind.TheVariants as kind
+use Rattle.flow_graph.specs.declared.route.Choice.{Choice}
+use Rattle.flow_graph.specs.Charts.{Chart, link_at, all_links, width_at, links_into, links_from, op_at, is_seq, into_seq, keys_at, first_width}
+use Rattle.flow_graph.specs.FlowShape.{IsShape}
+use Rattle.flow_graph.specs.Operators.{Op, import, by_row, tsort, remdup, result}
+use Rattle.flow_graph.specs.Runs.{Lists, Runs}
+use Rattle.flow_rules.specs.Verdicts.{choice_at, nodes_of}
+use Rattle.list_run.specs.declared.ran.Ran.{Ran}
+use Rattle.list_run.specs.Routed.{Joins}
+
+-- a sequential operator has one partition, another has as many as there are nodes
+abbrev pub degree_at : Chart → ℕ → ℕ → ℕ
+degree_at c nodes o = cond (is_seq (op_at c o).mark) 1 nodes
+
+abbrev pub first_into : Chart → ℕ → ℕ
+first_into c o = get_or (links_into c o) 0 0
+
+-- each output has as many columns as the input
+abbrev pub Passes : Chart → ℕ → Type 0
+Passes c o = (l : ℕ) → IsIn l (links_from c o) → width_at c l ≡ first_width c o
+
+-- import, copy, tsort, remdup and export are run
+abbrev pub IsBuilt : Chart → ℕ → OpKind → Type 0
+IsBuilt c o (kind.Import file schema delim fixed reject) = is_seq (op_at c o).mark ≡ true
+IsBuilt c o (kind.Export file delim fixed) = links_from c o ≡ []
+IsBuilt c o kind.Copy = Passes c o
+IsBuilt c o (kind.Tsort key) = Passes c o
+IsBuilt c o (kind.Remdup key last) = Passes c o
+IsBuilt c o k = ⊥
+
+-- a row of some columns, whose texts a hash can count
+abbrev pub IsRow : ℕ → Row → Type 0
+IsRow width r = (length r ≡ width) × All IsShort r
+
+-- a shaped flow with its choices, and by link the rows that imports put there
+pub record IsRunnable (c : Chart) (choices : List Choice) (nodes : ℕ) (sources : List (List Row)) : Type 0 where
+  pub shape : IsShape c
+  pub chosen : choices ≡ map (choice_at c) (all_links c)
+  pub some : 0 < nodes
+  pub built : (o : ℕ) → o < length c.flow.ops → IsBuilt c o (op_at c o).kind
+  pub joins : (l : ℕ) → l < length c.flow.links → Joins (into_seq c l) (choice_at c l).method (degree_at c nodes (link_at c l).from) (degree_at c nodes (link_at c l).to)
+  pub given : length sources ≡ length c.flow.links
+  pub rows : (l : ℕ) → l < length c.flow.links → All (IsRow (width_at c l)) (get_or sources l [])
+
+abbrev pub IsImport : Op → Type 0
+IsImport op = (lines : List Line) × (rejects : Bool) × (beyond : List Fault) × (op ≡ import lines rejects beyond)
+
+-- an operator is of its kind; an import gives on each of its links the rows that are given there
+abbrev pub OpIs : Chart → List (List Row) → ℕ → Op → OpKind → Type 0
+OpIs c sources o op (kind.Import file schema delim fixed reject) = IsImport op × ((l : ℕ) → IsIn l (links_from c o) → result op (link_at c l).out [] ≡ get_or sources l [])
+OpIs c sources o op (kind.Export file delim fixed) = (unwritable : Row → List Fault) × (op ≡ by_row (sink_rule unwritable))
+OpIs c sources o op kind.Copy = op ≡ by_row copy_rule
+OpIs c sources o op (kind.Tsort key) = op ≡ tsort (get_keys (keys_at c o) 0)
+OpIs c sources o op (kind.Remdup key last) = op ≡ remdup last (get_keys (keys_at c o) 0)
+OpIs c sources o op k = ⊥
+
+abbrev pub OpsAre : Chart → List (List Row) → (ℕ → Op) → Type 0
+OpsAre c sources ops = (o : ℕ) → o < length c.flow.ops → OpIs c sources o (ops o) (op_at c o).kind
+
+abbrev pub IsExport : OpKind → Type 0
+IsExport (kind.Export file delim fixed) = ⊤
+IsExport k = ⊥
+
+-- as far as rows are counted
+abbrev pub row_count : List (List Row) → ℕ
+row_count lists = min (length (joined lists)) (2 ^ 63 - 1)
+
+-- what is left is of a legal run: the numbers of rows that were put on the links, before they were routed, and what came at the exports
+pub record IsRunOf (c : Chart) (nodes : ℕ) (ops : ℕ → Op) (ran : Ran) : Type 0 where
+  pub run : Lists
+  pub legal : AllByRecursion (Runs (λ l. (choice_at c l).sort) run) (nodes_of c ops)
+  pub degrees : (l : ℕ) → l < length c.flow.links → (length (run.sent l) ≡ degree_at c nodes (link_at c l).from) × (length (run.got l) ≡ degree_at c nodes (link_at c l).to)
+  pub counts : ran.counts ≡ map (λ l. row_count (run.sent l)) (all_links c)
+  pub sinks : (o : ℕ) → o < length c.flow.ops → IsExport (op_at c o).kind → get_or ran.sinks o [] ≡ run.got (first_into c o)
