@@ -1,9 +1,9 @@
 -- The order of faults is total, and goes on from one fault to another.
-use Rattle.std.proofs.Common.{◌≡◌, ◌≢◌, false, List, [], ◌∷◌, ◌++◌, refl, sym, ◌∙◌}
+use Rattle.std.proofs.Common.{◌≡◌, ◌≢◌, true, false, List, [], ◌∷◌, ◌++◌, refl, sym, ◌∙◌}
 use Rattle.std.specs.List.{AllByRecursion}
 use Rattle.std.specs.declared.cmp.Ordering.{Ordering}
 use Rattle.std.specs.declared.cmp.Ordering.TheVariants.{Less, Equal, Greater}
-use Rattle.std.specs.Ordering.{is_gt, ordering_reverse}
+use Rattle.std.specs.Ordering.{is_lt, is_gt, ordering_reverse}
 use Rattle.std.specs.Cmp.{IsTotalOrder, on_total, nat_cmp_total, then_total, upto, tied_itself}
 use Rattle.std.specs.Cmp.Lexicographic.{nat_list_cmp_total}
 use Rattle.op_base.specs.declared.fault.Fault.{Fault}
@@ -32,16 +32,21 @@ chained f g h a b = up_to (fault_cmp f h) (upto fault_total f g h (not_above (fa
 pub itself : (f : Fault) → IsUpTo f f
 itself f e = absurd (cc (tied_itself fault_total f))
 
--- a fault that is less is not above
-pub lesser : (f g : Fault) → fault_cmp f g ≡ Less → IsUpTo f g
-lesser f g h e = absurd (cc)
+less : (r : Ordering) → is_lt r ≡ true → r ≢ Greater
+less Less h e = absurd (cc)
+less Equal h e = absurd (cc)
+less Greater h e = absurd (cc)
 
-turned : (r : Ordering) → r ≢ Less → ordering_reverse r ≢ Greater
-turned Less h e = absurd (h refl)
+-- a fault that is less is not above
+pub lesser : (f g : Fault) → is_lt (fault_cmp f g) ≡ true → IsUpTo f g
+lesser f g h = less (fault_cmp f g) h
+
+turned : (r : Ordering) → is_lt r ≡ false → ordering_reverse r ≢ Greater
+turned Less h e = absurd (cc)
 turned Equal h e = absurd (cc)
 turned Greater h e = absurd (cc)
 
-pub no_lesser : (f g : Fault) → fault_cmp f g ≢ Less → IsUpTo g f
+pub no_lesser : (f g : Fault) → is_lt (fault_cmp f g) ≡ false → IsUpTo g f
 no_lesser f g h e = turned (fault_cmp f g) h (sym (fault_total.antisymm g f) ∙ e)
 
 pub all_up_to : (f g : Fault) (hs : List Fault) → IsUpTo f g → AllByRecursion (IsUpTo g) hs → AllByRecursion (IsUpTo f) hs

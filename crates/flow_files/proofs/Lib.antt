@@ -1,3 +1,4 @@
+pub mod Examples
 pub mod FaultOrder
 pub mod FewLines
 pub mod Growing

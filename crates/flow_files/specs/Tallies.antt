@@ -1,8 +1,9 @@
 -- Tallies of bags of faults: how many there are, and the least.
-use Rattle.std.specs.Prelude.{◌≡◌, ◌≢◌, ℕ, ◌-◌, ◌^◌, min, List, [], ◌++◌, length, Option, Some, None}
+use Rattle.std.specs.Prelude.{◌≡◌, ◌≢◌, List, [], ◌++◌, length, Option, Some, None}
 use Rattle.std.specs.List.{AllByRecursion, Contains}
 use Rattle.std.specs.declared.cmp.Ordering.TheVariants.{Greater}
 use Rattle.op_base.specs.declared.fault.Fault.{Fault}
+use Rattle.op_base.specs.Emits.{counted}
 use Rattle.op_base.specs.Faults.{fault_cmp}
 use Rattle.flow_files.specs.declared.tally.Tally.{Tally}
 
@@ -15,13 +16,9 @@ abbrev pub IsLeastOf : Option Fault → List Fault → Type 0
 IsLeastOf None faults = faults ≡ []
 IsLeastOf (Some least) faults = IsLeast least faults
 
--- a count as it is given
-abbrev pub counted : ℕ → ℕ
-counted n = min n (2 ^ 63 - 1)
-
--- the number of these faults, as it is given, and their least; their order means nothing
+-- the number of these faults, as far as they are counted, and their least; their order means nothing
 pub record Tallies (faults : List Fault) (tally : Tally) : Type 0 where
-  pub number : tally.faults ≡ counted (length faults)
+  pub number : tally.faults ≡ counted 0 (length faults)
   pub least : IsLeastOf tally.least faults
 
 -- whatever was tallied, these faults are tallied too

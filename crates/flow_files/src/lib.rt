@@ -11,3 +11,6 @@ pub use export::export_rows;
 pub use fault::FileFault;
 pub use import::import_rows;
 pub use tally::Tally;
+
+#[cfg(test)]
+mod tests;

@@ -1,7 +1,6 @@
 ghost use Rattle.std.specs.Prelude.{◌<◌, ◌^◌};
 
 use op_base::{Fault, fault_cmp};
-use std::cmp::Ordering;
 
 /// As many faults as are counted.
 const COUNTED: u64 = 0x7fff_ffff_ffff_ffff;
@@ -15,8 +14,9 @@ pub struct Tally {
 }
 
 impl Tally {
-    ghost use Rattle.std.specs.Prelude.{◌≡◌, ◌++◌, ◌∷◌, ◌+◌, ◌-◌, ◌^◌, min, List, [], true, false};
+    ghost use Rattle.std.specs.Prelude.{◌≡◌, ◌++◌, ◌∷◌, List, [], None, length};
     ghost use Rattle.op_base.specs.declared.fault.Fault.{Fault as Wrong};
+    ghost use Rattle.op_base.specs.Emits.{counted, least_of};
     ghost use Rattle.flow_files.specs.Tallies.{IsLeast, IsLeastOf, Tallies, Grows};
 
     pub fn new() -> Tally
@@ -28,33 +28,44 @@ impl Tally {
         }
     }
 
-    fn count(&mut self)
-        ensures number { self.new.faults ≡ min (self.old.faults + 1) (2 ^ 63 - 1) }
-        ensures least { self.new.least ≡ self.old.least }
+    /// The lesser of two faults.
+    #[tactic(auto, using(crate::proofs::Growing::left_least, crate::proofs::Growing::right_least))]
+    fn lesser(a: Fault, b: Fault) -> Fault
+        ensures { (fs gs : List Wrong) → IsLeast a fs → IsLeast b gs → IsLeast result (fs ++ gs) }
     {
-        if self.faults < COUNTED {
-            self.faults += 1;
+        if fault_cmp(&b, &a).is_lt() { b } else { a }
+    }
+
+    /// The least of some faults and of others.
+    #[tactic(auto, using(crate::proofs::Growing::only_left, crate::proofs::Growing::only_right))]
+    fn least(a: Option<Fault>, b: Option<Fault>) -> Option<Fault>
+        ensures { (fs gs : List Wrong) → IsLeastOf a fs → IsLeastOf b gs → IsLeastOf result (fs ++ gs) }
+    {
+        match (a, b) {
+            (None, b) => b,
+            (a, None) => a,
+            (Some(a), Some(b)) => Some(Tally::lesser(a, b)),
         }
     }
 
-    /// Whether a fault is below all before.
-    #[tactic(auto, using(crate::proofs::Growing::least_stays, crate::proofs::Growing::least_falls, crate::proofs::Growing::least_begins))]
-    fn is_below(&self, fault: &Fault) -> bool
-        ensures below { result ≡ true → (faults : List Wrong) → IsLeastOf self.now.least faults → IsLeast fault.now (faults ++ fault.now ∷ []) }
-        ensures above { result ≡ false → (faults : List Wrong) → IsLeastOf self.now.least faults → IsLeastOf self.now.least (faults ++ fault.now ∷ []) }
+    /// Adds so many faults, with the least of them.
+    fn join(&mut self, faults: u64, least: Option<Fault>)
+        ensures { (more : List Wrong) → faults ≡ counted 0 (length more) → IsLeastOf least more → Grows self.old self.new more }
     {
-        match &self.least {
-            None => true,
-            Some(least) => fault_cmp(fault, least) == Ordering::Less,
-        }
+        self.faults = self.faults.saturating_add(faults).min(COUNTED);
+        self.least = Tally::least(self.least.take(), least);
     }
 
     pub fn add(&mut self, fault: Fault)
         ensures { Grows self.old self.new (fault ∷ []) }
     {
-        self.count();
-        if self.is_below(&fault) {
-            self.least = Some(fault);
-        }
+        self.join(1, Some(fault));
+    }
+
+    /// Adds what an operator emitted: the number of faults as far as it is counted, and the least.
+    pub fn add_emitted(&mut self, faults: u64, least: Option<Fault>)
+        ensures { (more : List Wrong) → faults ≡ counted 0 (length more) → least ≡ least_of None more → Grows self.old self.new more }
+    {
+        self.join(faults, least);
     }
 }

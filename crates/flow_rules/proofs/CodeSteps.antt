@@ -11,8 +11,11 @@ use Rattle.op_base.specs.RowOperators.{not_set}
 use Rattle.flow_graph.specs.declared.state.Spot.{Spot}
 use Rattle.flow_graph.specs.declared.state.Spot.TheVariants as spot
 use Rattle.flow_graph.specs.declared.state.State.{State}
-use Rattle.flow_rules.specs.Derive.{agree_sets, all_agree_in, all_at_place, agrees_in, both_sets, carried, carried_place, carried_sort, first_keys, key_if, key_places, places, same_list, same_place, with_column}
-use Rattle.flow_rules.specs.Needs.{begins_with, same_way}
+use Rattle.flow_rules.specs.Derive.{agree_sets, all_agree_in, all_at_place, agrees_in, both_sets, carried, carried_place, carried_sort, first_keys, first_state, key_if, key_places, places, same_list, same_place, with_column}
+use Rattle.flow_graph.specs.Forms.{Form}
+use Rattle.flow_rules.specs.Needs.{begins_with, first_place, meets, missed, needs, same_way}
+use Rattle.flow_rules.specs.Verdicts.{first_of}
+use Rattle.flow_rules.specs.declared.need.Need.{Need}
 
 from_place : {X : Type 0} (xs : List X) (i : ℕ) (d : X) → i < length xs → drop i xs ≡ get_or xs i d ∷ drop (i + 1) xs
 from_place xs i d h = rw add-one (drop-cons xs i d h)
@@ -140,3 +143,12 @@ sets_none states xs i d h e = ap (onto xs) (sets_from states i d h ∙ ap (λ o.
 
 pub not_set_step : (targets cs : List ℕ) (i : ℕ) → i < length cs → not_set targets (drop i cs) ≡ cond (cond (is_in (get_or cs i 0) targets) false true) (get_or cs i 0 ∷ not_set targets (drop (i + 1) cs)) (not_set targets (drop (i + 1) cs))
 not_set_step targets cs i h = ap (not_set targets) (from_place cs i 0 h)
+
+pub parts_step : (p : Need → Bool) (parts : List Need) (i : ℕ) (d : Need) → i < length parts → filter p (drop i parts) ≡ cond (p (get_or parts i d)) (get_or parts i d ∷ filter p (drop (i + 1) parts)) (filter p (drop (i + 1) parts))
+parts_step p parts i d h = ap (filter p) (from_place parts i d h)
+
+pub missed_is : (f : Form) (states : List State) (i : ℕ) (first : Spot) (s : State) (parts : List Need) (found : Option Need) → first ≡ first_place f states i → s ≡ get_or states i (first_state []) → parts ≡ needs f first i →
+    found ≡ first_of (filter (λ part. not (meets first s part)) parts) → found ≡ first_of (missed f states i)
+missed_is f states i first s parts found a b c d =
+    let G : Spot → State → List Need → Option Need = λ x y ps. first_of (filter (λ part. not (meets x y part)) ps) in
+    d ∙ ap (λ ps. G first s ps) c ∙ ap (λ y. G first y (needs f first i)) b ∙ ap (λ x. G x (get_or states i (first_state [])) (needs f x i)) a

@@ -23,3 +23,6 @@ pub mod StateExamples
 pub mod FlowExamples
 pub mod VerdictLaws
 pub mod OneVerdict
+pub mod Fills
+pub mod Refusals
+pub mod Routing

@@ -1,4 +1,5 @@
 pub mod Derive
+pub mod Filling
 pub mod Laws
 pub mod Needs
 pub mod Outlines

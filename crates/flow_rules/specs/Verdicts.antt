@@ -1,13 +1,13 @@
 -- The verdict on a shaped flow: the states and choices of all links, or the first part of a need that a link misses.
-use Rattle.std.specs.Prelude.{◌≡◌, ℕ, ◌<◌, ◌==◌, Bool, List, [], ◌∷◌, ◌++◌, length, map, get_or, Option, Some, None, ⊤}
+use Rattle.std.specs.Prelude.{◌≡◌, ℕ, ◌<◌, ◌==◌, ◌&&◌, ◌||◌, is_some, Bool, true, false, List, [], ◌∷◌, ◌++◌, length, map, get_or, Option, Some, None, ⊤}
 use Rattle.ds_schema.specs.declared.key.Key.{Key}
 use Rattle.flow_graph.specs.declared.route.Route.{Route}
 use Rattle.flow_graph.specs.declared.route.Route.TheVariants as route
 use Rattle.flow_graph.specs.declared.route.Choice.{Choice}
 use Rattle.flow_graph.specs.declared.state.State.{State}
-use Rattle.flow_graph.specs.Charts.{Chart, link_at, all_links, width_at, links_into, links_from, into_seq, form_at}
+use Rattle.flow_graph.specs.Charts.{Chart, link_at, all_links, width_at, links_into, links_from, op_at, is_seq, into_seq, form_at}
 use Rattle.flow_graph.specs.FlowShape.{ForwardOrder, CoversLinks, PortsInOrder}
-use Rattle.flow_graph.specs.Forms.{form}
+use Rattle.flow_graph.specs.Forms.{form, sort_key}
 use Rattle.flow_graph.specs.Operators.{Op}
 use Rattle.flow_graph.specs.Runs.{Out, Node, InsertedFrom}
 use Rattle.op_base.specs.Columns.{IsIn, Lies}
@@ -27,6 +27,20 @@ written_or_same (Some r) = r
 abbrev pub choice_at : Chart → ℕ → Choice
 choice_at c l = record { method = written_or_same (get_or c.written l None); sort = None }
 
+-- an input that needs no order of its rows
+abbrev pub unsorted : Option (List Key) → Bool
+unsorted None = true
+unsorted (Some []) = true
+unsorted (Some (k ∷ keys)) = false
+
+-- a link with a written route, or one between sequential operators that needs no order
+abbrev pub routed_at : Chart → ℕ → Bool
+routed_at c l = is_some (get_or c.written l None) || (is_seq (op_at c (link_at c l).from).mark && (into_seq c l && unsorted (sort_key (form_at c (link_at c l).to) (link_at c l).port)))
+
+-- A stage: flows where no route and no sort has to be found. Of others `choice_at` isn't yet what is chosen.
+abbrev pub IsRouted : Chart → Type 0
+IsRouted c = (l : ℕ) → l < length c.flow.links → routed_at c l ≡ true
+
 abbrev pub state_at : List State → ℕ → State
 state_at states l = get_or states l (first_state [])
 
@@ -45,6 +59,14 @@ pub record AreStates (regains : Bool) (c : Chart) (states : List State) : Type 0
   pub each : length states ≡ length c.flow.links
   pub derived : (l : ℕ) → l < length c.flow.links → state_at states l ≡ link_state regains c states l
 
+abbrev pub first_of : {X : Type 0} → List X → Option X
+first_of [] = None
+first_of (x ∷ xs) = Some x
+
+abbrev pub first_with : Option Need → State → Option (Need × State)
+first_with None s = None
+first_with (Some part) s = Some (part, s)
+
 -- parts of needs with the state that misses them
 abbrev pub with_state : State → List Need → List (Need × State)
 with_state s parts = map (λ part. (part, s)) parts
@@ -56,11 +78,15 @@ link_misses regains c states l =
     with_state (output_at regains c states l) (route_missed (choice_at c l).method (output_at regains c states l))
     ++ with_state (state_at states l) (missed (form_at c o) (map (state_at states) (links_into c o)) (link_at c l).port)
 
+-- no link misses anything
+abbrev pub NoneMisses : Bool → Chart → List State → Type 0
+NoneMisses regains c states = (l : ℕ) → l < length c.flow.links → link_misses regains c states l ≡ []
+
 -- accepted: no link misses anything
 pub record IsAccepted (regains : Bool) (c : Chart) (states : List State) (choices : List Choice) : Type 0 where
   pub states_are : AreStates regains c states
   pub choices_are : choices ≡ map (choice_at c) (all_links c)
-  pub none : (l : ℕ) → l < length c.flow.links → link_misses regains c states l ≡ []
+  pub none : NoneMisses regains c states
 
 -- refused: the least link that misses something, and the first that it misses
 pub record IsRefused (regains : Bool) (c : Chart) (link : ℕ) (need : Need) (have : State) : Type 0 where

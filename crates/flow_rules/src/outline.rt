@@ -60,10 +60,7 @@ fn stored_outline(stored: Option<&Stored>) -> Result<Outline, NoMemory>
 {
     match stored {
         None => Ok(Outline::Dsread(0, None)),
-        Some(data) => Ok(Outline::Dsread(
-            data.partitions,
-            Copied::copied(&data.place)?,
-        )),
+        Some(data) => Ok(Outline::Dsread(data.partitions, Copied::copied(&data.place)?)),
     }
 }
 

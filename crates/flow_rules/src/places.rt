@@ -102,7 +102,8 @@ pub(crate) fn places(alloc: Global, states: &[State]) -> Result<Vec<Spot>, NoMem
     Ok(found)
 }
 
-fn key_place(
+/// A place over the columns of other keys.
+pub(crate) fn key_place(
     alloc: Global,
     keys: &KeyList,
     heads: &KeyList,

@@ -145,11 +145,7 @@ pub(crate) fn passed_state(
 }
 
 /// What a sort by keys leaves.
-pub(crate) fn sorted_state(
-    alloc: Global,
-    keys: &KeyList,
-    state: &State,
-) -> Result<State, NoMemory>
+pub(crate) fn sorted_state(alloc: Global, keys: &KeyList, state: &State) -> Result<State, NoMemory>
     ensures { IfOk result (λ s. s ≡ sorted_state (Some keys.now) state.now) }
 {
     let sort = resorted(alloc, keys, &state.sort)?;
@@ -161,11 +157,7 @@ pub(crate) fn sorted_state(
 }
 
 /// What remdup leaves: the agree set where it lies in the keys.
-pub(crate) fn remdup_state(
-    alloc: Global,
-    keys: &KeyList,
-    state: &State,
-) -> Result<State, NoMemory>
+pub(crate) fn remdup_state(alloc: Global, keys: &KeyList, state: &State) -> Result<State, NoMemory>
     ensures { IfOk result (λ s. s ≡ record { agree = cond (agrees_in (cols keys.now) state.now.agree) state.now.agree None; place = state.now.place; sort = state.now.sort }) }
 {
     let columns = columns_of(alloc, keys)?;
@@ -212,11 +204,7 @@ pub(crate) fn grouped_state(
 }
 
 #[tactic(auto, using(crate::proofs::CodeSteps::agree_step, crate::proofs::CodeSteps::agree_end))]
-fn all_agree_in(
-    alloc: Global,
-    keys: &[KeyList],
-    states: &[State],
-) -> Result<bool, NoMemory>
+fn all_agree_in(alloc: Global, keys: &[KeyList], states: &[State]) -> Result<bool, NoMemory>
     ensures { IfOk result (λ found. found ≡ all_agree_in keys.now states.now) }
 {
     for (i, list) in keys.iter().enumerate() {
@@ -295,12 +283,8 @@ fn if_common(
 {
     match place {
         Spot::Solo => more(agree, columns.as_slice()),
-        Spot::Placed(Place::Hash(own)) => {
-            more(more(agree, own.as_slice())?, columns.as_slice())
-        }
-        Spot::Placed(Place::Modulus(own)) => {
-            more(more(agree, &[*own])?, columns.as_slice())
-        }
+        Spot::Placed(Place::Hash(own)) => { more(more(agree, own.as_slice())?, columns.as_slice()) }
+        Spot::Placed(Place::Modulus(own)) => { more(more(agree, &[*own])?, columns.as_slice()) }
         Spot::Entire | Spot::None => Ok(None),
     }
 }

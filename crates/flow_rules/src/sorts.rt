@@ -43,11 +43,7 @@ pub(crate) fn first_keys(alloc: Global, keys: &KeyList) -> Result<KeyList, NoMem
     Ok(KeyList::from_vec(found))
 }
 
-fn carried_keys(
-    alloc: Global,
-    pairs: &[(u32, u32)],
-    sort: &KeyList,
-) -> Result<Vec<Key>, NoMemory>
+fn carried_keys(alloc: Global, pairs: &[(u32, u32)], sort: &KeyList) -> Result<Vec<Key>, NoMemory>
     ensures { IfOk result (λ found. found.items ≡ carried_sort pairs.now sort.now) }
 {
     let mut found = Vec::new(alloc);
@@ -95,11 +91,7 @@ fn with_old(alloc: Global, keys: &KeyList, old: &KeyList) -> Result<Vec<Key>, No
 
 /// A sort list as a sort by keys leaves it: these, then the old ones of other columns.
 #[tactic(auto, using(crate::proofs::KeyLists::resorted_differ))]
-pub(crate) fn resorted(
-    alloc: Global,
-    keys: &KeyList,
-    old: &KeyList,
-) -> Result<KeyList, NoMemory>
+pub(crate) fn resorted(alloc: Global, keys: &KeyList, old: &KeyList) -> Result<KeyList, NoMemory>
     ensures { IfOk result (λ found. found ≡ keys.now ++ without keys.now old.now) }
 {
     let _ = keys.as_slice();

@@ -40,5 +40,5 @@ first_below m f o (l ∷ ls) h e = let k = h.0.1 in omega arith
 pub sink_input : (c : Chart) (o : ℕ) → IsShape c → o < length c.flow.ops → is_sink (op_at c o).kind ≡ true → get_or (links_to c.flow.links o) 0 0 < length c.flow.links
 sink_input c o shape below sink =
     first_below (length c.flow.links) (λ l. (link_at c l).to) o (links_into c o)
-        (marked (λ l. (link_at c l).to) o 0 (length c.flow.links))
-        (one_input (op_at c o).kind (keys_at c o) (cols_at c o) (get_or c.stored o None) (first_width c o) (length (links_into c o)) sink (shape.ops o below).inputs)
+    (marked (λ l. (link_at c l).to) o 0 (length c.flow.links))
+    (one_input (op_at c o).kind (keys_at c o) (cols_at c o) (get_or c.stored o None) (first_width c o) (length (links_into c o)) sink (shape.ops o below).inputs)

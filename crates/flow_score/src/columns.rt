@@ -24,11 +24,7 @@ pub fn put_column(text: &mut Bytes, fields: &[Field], column: u32) -> Result<(),
 }
 
 /// The names of columns, each behind a comma.
-fn put_further_columns(
-    text: &mut Bytes,
-    fields: &[Field],
-    columns: &[u32],
-) -> Result<(), NoMemory>
+fn put_further_columns(text: &mut Bytes, fields: &[Field], columns: &[u32]) -> Result<(), NoMemory>
     ensures { OnOk result (text.new ≡ text.old ++ flat_map (λ c. codes "," ++ column_name fields.now c) columns.now) }
 {
     for column in columns {

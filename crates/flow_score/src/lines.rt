@@ -116,12 +116,7 @@ pub fn put_sink_line(
 }
 
 #[tactic(auto, unfolding(crate::specs::VerdictText::missed_text))]
-fn put_missed(
-    text: &mut Bytes,
-    fields: &[Field],
-    need: &Need,
-    have: &State,
-) -> Result<(), NoMemory>
+fn put_missed(text: &mut Bytes, fields: &[Field], need: &Need, have: &State) -> Result<(), NoMemory>
     requires { length fields.now < 2 ^ 32 }
     ensures { OnOk result (text.new ≡ text.old ++ missed_text fields.now need.now have.now) }
 {

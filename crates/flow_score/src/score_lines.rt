@@ -79,12 +79,7 @@ fn end_text(alloc: Global, op: u32, port: u32) -> Result<String, AllocError>
     format!(in alloc; "{op}.{port} ")
 }
 
-fn put_ends(
-    alloc: Global,
-    text: &mut Bytes,
-    number: u32,
-    link: &LinkSpec,
-) -> Result<(), NoMemory>
+fn put_ends(alloc: Global, text: &mut Bytes, number: u32, link: &LinkSpec) -> Result<(), NoMemory>
     ensures { OnOk result (text.new ≡ text.old ++ ends_text number link.now) }
 {
     put(text, link_head(alloc, number)?.as_str())?;

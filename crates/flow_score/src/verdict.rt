@@ -5,8 +5,8 @@ ghost use Rattle.flow_graph.specs.FlowShape.{IsShape};
 ghost use Rattle.flow_score.specs.VerdictText.{is_sink, line_of, sink_at, sink_lines, state_lines, verdict_text, IsOf};
 
 use crate::columns::put;
-use crate::links::input_link;
 use crate::lines::{put_refusal, put_sink_line, put_state_line};
+use crate::links::input_link;
 use ds_value::{Bytes, NoMemory};
 use flow_graph::{OpKind, Shaped, State};
 use flow_rules::Verdict;
@@ -93,11 +93,7 @@ fn put_sinks(
 }
 
 /// The verdict as text: a line for each link and each sink, or one for the link that is refused.
-pub fn verdict_text(
-    alloc: Global,
-    shaped: &Shaped,
-    verdict: &Verdict,
-) -> Result<Bytes, NoMemory>
+pub fn verdict_text(alloc: Global, shaped: &Shaped, verdict: &Verdict) -> Result<Bytes, NoMemory>
     requires shape { IsShape shaped.now }
     requires of { IsOf shaped.now verdict.now }
     ensures { IfOk result (λ text. text ≡ verdict_text shaped.now verdict.now) }

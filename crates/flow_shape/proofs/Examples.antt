@@ -87,9 +87,11 @@ link a b = record { from = a; out = 0; to = b; port = 0; method = method.Auto; f
 -- import | tsort | export
 sorting : List ℕ → Flow
 sorting name = record {
-  nopart = false; nosort = false;
+  nopart = false;
+  nosort = false;
   ops = op (kind.Import (codes "in") people 44 None false) ∷ op (kind.Tsort ((name, false) ∷ [])) ∷ op (kind.Export (codes "out") 44 None) ∷ [];
-  links = link 0 1 ∷ link 1 2 ∷ [] }
+  links = link 0 1 ∷ link 1 2 ∷ [];
+}
 
 known_key : operator_cause (chart_of (sorting (codes "name")) (people ∷ people ∷ [])) 1 ≡ None
 unfolding sorting people field op link

@@ -25,3 +25,6 @@ pub use answers::one_answer;
 pub use fault::{ShapeFault, ShapeWhy};
 pub use sequence::{one_order, ordered_is_free};
 pub use shaping::shape;
+
+#[cfg(test)]
+mod tests;

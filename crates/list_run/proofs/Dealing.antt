@@ -1,6 +1,6 @@
 -- What dealing row by row, and producer by producer, leaves in each list.
-use Rattle.std.proofs.Common.{◌≡◌, ◌≢◌, ◌⊎◌, inl, inr, ℕ, zero, suc, ◌+◌, ◌<◌, ◌≤◌, ◌%◌, ◌==◌, Bool, true, false, cond, refl, sym, ap, ap₂, ◌∙◌, subst, List, [], ◌∷◌, ◌++◌, length, get_or, set, replicate, map, append-nil, append_assoc, arith}
-use Rattle.std.specs.List.{flat_map, range_with_len}
+use Rattle.std.proofs.Common.{◌≡◌, ◌≢◌, ◌⊎◌, inl, inr, ℕ, zero, suc, ◌+◌, ◌<◌, ◌%◌, ◌==◌, Bool, true, false, cond, refl, sym, ap, ap₂, ◌∙◌, subst, List, [], ◌∷◌, ◌++◌, length, get_or, set, replicate, map, append-nil, append_assoc, arith}
+use Rattle.std.specs.List.{range_with_len}
 use Rattle.std.proofs.Math.Nat.{mod-add-mod}
 use Rattle.std.proofs.lemmas.Bool.Decides.{eqb_tells}
 use Rattle.std.proofs.lemmas.List.{get_or-set_other, get_or-set_same, length-set, ext_get_or}
@@ -10,7 +10,7 @@ use Rattle.op_base.specs.Columns.{Row}
 use Rattle.op_base.specs.Lists.{Interleaves, joined}
 use Rattle.op_base.proofs.Interleavings.{joined_interleaves}
 use Rattle.flow_graph.specs.Destinations.{lane, lanes_to, SentFrom}
-use Rattle.list_run.specs.Dealt.{Deals, Dealt, dealt, turn_goes}
+use Rattle.list_run.specs.Dealt.{Deals, Dealt, dealt}
 
 -- a lane of one more row
 lane-more : {X : Type 0} (goes : ℕ → X → ℕ) (j t : ℕ) (xs : List X) (x : X) → lane goes j t (xs ++ x ∷ []) ≡ lane goes j t xs ++ cond (goes (t + length xs) x == j) (x ∷ []) []

@@ -1,7 +1,7 @@
 -- At its end, a loop over a list that it owns has had all of it.
-use Rattle.std.proofs.Common.{◌≡◌, ◌<◌, ℕ, get_or, Some, sym, ap, ◌∙◌, List, map-id, length, Option, None}
+use Rattle.std.proofs.Common.{◌≡◌, ◌<◌, get_or, Some, sym, ap, ◌∙◌, List, map-id, length, Option, None}
 use Rattle.std.specs.Iterator.{Yields}
-use Rattle.std.specs.Vec.Iter.{into_iter_items, into_iter_len, into_iter_steps}
+use Rattle.std.specs.Vec.Iter.{into_iter_items, into_iter_steps}
 use Rattle.std.specs.declared.vec.IntoIter.{IntoIter}
 use Rattle.std.proofs.lemmas.Iterator.Consumers.{YieldsList-end, YieldsList-turn}
 use Rattle.std.proofs.lemmas.Iterator.Adapters.{YieldsList-from_vec}

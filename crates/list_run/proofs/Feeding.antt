@@ -1,8 +1,7 @@
 -- Rows and their end, fed to an operator with one port.
-use Rattle.std.proofs.Common.{◌≡◌, ℕ, zero, suc, ◌<◌, Bool, true, false, not, ◌&&◌, refl, sym, ap, ◌∙◌, subst, List, [], ◌∷◌, ◌++◌, map, append_assoc, append-nil, arith}
+use Rattle.std.proofs.Common.{◌≡◌, ℕ, zero, suc, ◌<◌, Bool, true, not, ◌&&◌, refl, ap, ◌∙◌, subst, List, [], ◌∷◌, ◌++◌, map, append-nil, arith}
 use Rattle.std.specs.Prelude.{nat_lt}
-use Rattle.streams.specs.Streams.{Item, row, end, Feed, Out, sends, fails, Stream, items_of, ended, all_below, all_ended, has_end, emits, emits_after, FedAfter, Fed, whole, Gives, rows_out}
-use Rattle.streams.specs.Operators.{one_wanted}
+use Rattle.streams.specs.Streams.{row, end, Feed, Out, sends, fails, items_of, ended, all_below, all_ended, has_end, emits, FedAfter, whole, Gives, rows_out}
 use Rattle.streams.proofs.StreamLaws.{emits-append, fed-more, items-append, no_end, map-append}
 use Rattle.op_base.specs.declared.fault.Fault.{Fault}
 use Rattle.op_base.specs.declared.emit.Emit.{Emit}

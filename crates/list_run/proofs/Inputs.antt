@@ -1,5 +1,5 @@
 -- What a shape says of an operator's input, by its kind.
-use Rattle.std.proofs.Common.{◌≡◌, ℕ, ◌<◌, refl, ap, subst, List, [], ◌∷◌, inl, length, get_or, Option, None, arith}
+use Rattle.std.proofs.Common.{◌≡◌, ℕ, ◌<◌, refl, subst, List, [], ◌∷◌, inl, length, get_or, None, arith}
 use Rattle.op_base.specs.Columns.{IsIn}
 use Rattle.flow_graph.specs.declared.op_kind.OpKind.{OpKind}
 use Rattle.flow_graph.specs.Charts.{Chart, link_at, links_into, op_at, keys_at, cols_at, first_width, kind_form}

@@ -1,10 +1,8 @@
 -- The lists are a legal run.
-use Rattle.std.proofs.Common.{◌≡◌, ℕ, zero, suc, ◌+◌, ◌<◌, ◌≤◌, Bool, true, false, cond, refl, sym, ap, ap₂, ◌∙◌, subst, List, [], ◌∷◌, ◌++◌, inl, inr, map, length, get_or, take, Option, Some, None, arith}
+use Rattle.std.proofs.Common.{◌≡◌, ℕ, ◌<◌, Bool, true, false, cond, refl, sym, ap, ◌∙◌, subst, List, [], ◌∷◌, inl, inr, map, length, get_or, take, arith}
 use Rattle.std.specs.List.{AllByRecursion, flat_map, range_with_len}
-use Rattle.std.proofs.lemmas.List.{ext_get_or, length-map}
+use Rattle.std.proofs.lemmas.List.{ext_get_or}
 use Rattle.std.proofs.lemmas.List.FromFn.{length-map-range_with_len, get_or-map-range_with_len}
-use Rattle.ds_schema.specs.declared.key.Key.{Key}
-use Rattle.op_base.specs.declared.fault.Fault.{Fault}
 use Rattle.op_base.specs.Columns.{Row, IsIn}
 use Rattle.op_base.specs.Keyed.{get_keys}
 use Rattle.op_base.specs.RowOperators.{copy_rule}
@@ -14,19 +12,19 @@ use Rattle.flow_graph.specs.declared.route.Choice.{Choice}
 use Rattle.flow_graph.specs.Charts.{Chart, link_at, all_links, links_into, links_from, op_at, keys_at, is_seq, into_seq}
 use Rattle.flow_graph.specs.FlowShape.{IsShape}
 use Rattle.flow_graph.specs.Operators.{Op, import, by_row, tsort, remdup, result}
-use Rattle.flow_graph.specs.Runs.{Out, Node, Lists, Runs, Gives, Delivers, FitsDegree, faults_on, slice}
+use Rattle.flow_graph.specs.Runs.{Lists, Runs, Gives, Delivers, FitsDegree, faults_on, slice}
 use Rattle.flow_graph.proofs.StateLaws.{each_part}
-use Rattle.flow_rules.specs.Verdicts.{choice_at, node_at, nodes_of, out_at}
+use Rattle.flow_rules.specs.Verdicts.{choice_at, node_at, out_at}
 use Rattle.list_run.specs.declared.held.Held.{Held}
 use Rattle.list_run.specs.declared.ran.Ran.{Ran}
 use Rattle.list_run.specs.Held.{sent_by}
 use Rattle.list_run.specs.Made.{made}
 use Rattle.list_run.specs.Routed.{Joins, routed}
-use Rattle.list_run.specs.Runnable.{degree_at, first_into, row_count, IsBuilt, IsExport, IsRunnable, IsRunOf, OpIs, OpsAre}
+use Rattle.list_run.specs.Runnable.{degree_at, first_into, row_count, IsBuilt, IsRunnable, IsRunOf, OpIs, OpsAre}
 use Rattle.list_run.specs.Turns.{HadTurn, Stands, got_in, sent_in}
 use Rattle.list_run.proofs.Dealing.{map_same}
 use Rattle.list_run.proofs.Inputs.{ports_at}
-use Rattle.list_run.proofs.Links.{in_into, in_from, from_in}
+use Rattle.list_run.proofs.Links.{in_into, in_from}
 use Rattle.list_run.proofs.Ordered.{order_below, ordered}
 use Rattle.list_run.proofs.Routes.{routed_long, routed_arrives}
 use Rattle.list_run.proofs.Sizes.{got_means, all_fit}
@@ -115,10 +113,10 @@ delivers : (c : Chart) (choices : List Choice) (nodes : ℕ) (given : List (List
 delivers c choices nodes given r l m =
     let n = degree_at c nodes (link_at c l).to in
     let fits = (all_fit c choices nodes given r l m).0 in
-    let joins = subst (λ d. Joins (into_seq c l) (choice_at c l).method d n) (sym fits.0) (r.joins l m) in
+    let joins = subst (λ d. Joins (into_seq c l) (choice_at c l).method d n) (sym fits.0) (r.run.joins l m) in
     record {
       mid = routed (choice_at c l).method n (sent_in c nodes given l);
-      some = subst (λ k. 0 < k) (sym (routed_long (into_seq c l) (choice_at c l).method n (sent_in c nodes given l) joins)) (some_degree c nodes (link_at c l).to r.some);
+      some = subst (λ k. 0 < k) (sym (routed_long (into_seq c l) (choice_at c l).method n (sent_in c nodes given l) joins)) (some_degree c nodes (link_at c l).to r.run.some);
       arrives = routed_arrives (into_seq c l) (choice_at c l).method n (sent_in c nodes given l) joins;
       sorted = got_means c choices nodes given r l m;
     }
@@ -126,8 +124,8 @@ delivers c choices nodes given r l m =
 runs_at : (c : Chart) (choices : List Choice) (nodes : ℕ) (given : List (List Row)) (ops : ℕ → Op) → IsRunnable c choices nodes given → OpsAre c given ops → (o : ℕ) → o < length c.flow.ops → Runs (λ l. (choice_at c l).sort) (run_in c nodes given ops) (node_at c ops o)
 runs_at c choices nodes given ops r are o m = record {
   degree = degree_at c nodes o;
-  some = some_degree c nodes o r.some;
-  fits = kind_degree c nodes given o (op_at c o).kind (ops o) (r.built o m) (are o m);
+  some = some_degree c nodes o r.run.some;
+  fits = kind_degree c nodes given o (op_at c o).kind (ops o) (r.run.built o m) (are o m);
   degrees = all_members (λ l. length (got_in c nodes given l) ≡ degree_at c nodes o) (links_into c o) long;
   gives = all_mapped (out_at c) _ (links_from c o) gives;
   fails = refl;
@@ -142,7 +140,7 @@ runs_at c choices nodes given ops r are o m = record {
         let k = in_from c o l i in
         subst (λ (s : List (List Row)). Gives (ops o) (link_at c l).out (map (got_in c nodes given) (links_into c o)) (degree_at c nodes o) s)
         (sym (ap (λ p. sent_by (op_at c p).kind (keys_at c p) (got_in c nodes given (first_into c p)) (get_or given l [])) k.1))
-        (kind_gives c nodes given o l (op_at c o).kind (ops o) (got_in c nodes given) r.shape m refl (r.built o m) (are o m) i long)
+        (kind_gives c nodes given o l (op_at c o).kind (ops o) (got_in c nodes given) r.shape m refl (r.run.built o m) (are o m) i long)
 
 take_all : (xs : List ℕ) → take (length xs) xs ≡ xs
 take_all [] = refl
@@ -159,8 +157,8 @@ is_run c choices nodes given rest held ran r stands n s = λ ops are. record {
   degrees = λ l m. let f = all_fit c choices nodes given r l m in (f.0.0, f.1.0);
   counts = n ∙ ext_get_or 0 held.counts.items (map (λ l. row_count (sent_in c nodes given l)) (all_links c)) (stands.room.counts ∙ sym (length-map-range_with_len (λ l. row_count (sent_in c nodes given l)) 0 (length c.flow.links)))
       (λ l k. let m = subst (λ j. l < j) stands.room.counts k in
-          stands.counts l m (had_all c (link_at c l).from (ordered c r.shape.order (link_at c l).from (r.shape.links l m).from))
-          ∙ sym (get_or-map-range_with_len (λ l. row_count (sent_in c nodes given l)) 0 (length c.flow.links) l l 0 m (omega arith)));
+      stands.counts l m (had_all c (link_at c l).from (ordered c r.shape.order (link_at c l).from (r.shape.links l m).from))
+      ∙ sym (get_or-map-range_with_len (λ l. row_count (sent_in c nodes given l)) 0 (length c.flow.links) l l 0 m (omega arith)));
   sinks = λ o m e. ap (λ ls. get_or ls o []) s ∙ stands.sinks o (had_all c o (ordered c r.shape.order o m)) e;
 }
   where

@@ -1,5 +1,5 @@
 -- The order of a flow has each operator once.
-use Rattle.std.proofs.Common.{◌≡◌, ◌⊎◌, inl, inr, ℕ, zero, suc, ◌+◌, ◌<◌, ◌≤◌, ◌==◌, Bool, true, false, refl, sym, ap, ◌∙◌, subst, List, [], ◌∷◌, ◌++◌, length, take, get_or, IsPermutation, add-one, arith}
+use Rattle.std.proofs.Common.{◌≡◌, ◌⊎◌, inl, inr, ℕ, zero, suc, ◌+◌, ◌<◌, ◌≤◌, Bool, true, false, refl, sym, ap, ◌∙◌, subst, List, [], ◌∷◌, ◌++◌, length, take, get_or, add-one, arith}
 use Rattle.std.specs.Prelude.{eqb, ◌||◌}
 use Rattle.std.specs.List.{AllByRecursion, IsDistinct, list_any, range_with_len}
 use Rattle.std.proofs.Math.Seq.{take-suc}
@@ -9,10 +9,9 @@ use Rattle.std.proofs.lemmas.List.Elements.{All-from_recursion, recursion_from_A
 use Rattle.std.proofs.lemmas.Map.Keys.{IsDistinct-IsPermutation}
 use Rattle.op_base.specs.Columns.{IsIn}
 use Rattle.op_base.proofs.ColumnLaws.{in_range}
-use Rattle.flow_graph.specs.Charts.{Chart, op_at}
+use Rattle.flow_graph.specs.Charts.{Chart}
 use Rattle.flow_graph.specs.FlowShape.{IsOrder}
 use Rattle.list_run.specs.Turns.{HadTurn}
-use Rattle.list_run.proofs.Links.{all_in}
 
 in_left : (x : ℕ) (xs ys : List ℕ) → IsIn x xs → IsIn x (xs ++ ys)
 in_left x [] ys i = absurd i

@@ -1,5 +1,5 @@
 -- What is brought is what a route may bring.
-use Rattle.std.proofs.Common.{◌≡◌, ℕ, ◌+◌, ◌%◌, ◌<◌, Bool, true, false, refl, sym, ap, ◌∙◌, subst, List, [], ◌∷◌, length}
+use Rattle.std.proofs.Common.{◌≡◌, ℕ, ◌+◌, ◌%◌, Bool, true, false, refl, sym, subst, List, length}
 use Rattle.op_base.specs.Columns.{Row}
 use Rattle.op_base.specs.Lists.{joined}
 use Rattle.op_base.proofs.Interleavings.{joined_interleaves}

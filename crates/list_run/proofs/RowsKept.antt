@@ -1,5 +1,5 @@
 -- What is said of each row is kept on the way.
-use Rattle.std.proofs.Common.{◌≡◌, ℕ, zero, suc, ◌+◌, ◌%◌, ◌==◌, Bool, true, false, cond, refl, sym, ap, subst, List, [], ◌∷◌, ◌++◌, map, length, Option, Some, None}
+use Rattle.std.proofs.Common.{ℕ, suc, ◌+◌, ◌%◌, ◌==◌, Bool, true, false, cond, sym, subst, List, [], ◌∷◌, map, Option, Some, None}
 use Rattle.std.specs.List.{AllByRecursion, flat_map, range_with_len}
 use Rattle.streams.specs.Lists.{onto_run, runs_of}
 use Rattle.ds_schema.specs.declared.key.Key.{Key}

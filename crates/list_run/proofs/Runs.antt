@@ -1,14 +1,13 @@
 -- What tsort and remdup give of all rows of a partition.
-use Rattle.std.proofs.Common.{◌≡◌, ℕ, zero, suc, ◌≤◌, Bool, true, false, cond, refl, sym, ap, ap₂, ◌∙◌, List, [], ◌∷◌, ◌++◌, map, length, arith}
+use Rattle.std.proofs.Common.{◌≡◌, ℕ, zero, suc, ◌≤◌, Bool, true, false, cond, refl, sym, ap, ◌∙◌, List, [], ◌∷◌, ◌++◌, map, length, arith}
 use Rattle.std.specs.List.{flat_map}
-use Rattle.std.specs.Ordering.{is_eq}
 use Rattle.streams.specs.Streams.{Out, sends, Gives, rows_out}
 use Rattle.streams.specs.Operators.{first_outs, last_outs}
 use Rattle.streams.specs.Lists.{onto_run, runs_of}
 use Rattle.streams.proofs.OperatorLaws.{operators_give}
 use Rattle.streams.proofs.StreamLaws.{map-append}
 use Rattle.ds_schema.specs.declared.key.Key.{Key}
-use Rattle.ds_schema.specs.Rows.{cols, ways, val, has, row_cmp}
+use Rattle.ds_schema.specs.Rows.{cols, ways, val, has}
 use Rattle.op_base.specs.declared.fault.Fault.{Fault}
 use Rattle.op_base.specs.Columns.{Row}
 use Rattle.op_base.specs.Feeds.{front, behind, by_runs, run_by_run, rows_in}

@@ -1,5 +1,5 @@
 -- The lists on all links: they are settled after a turn for each operator, and have as many partitions as their consumers and rows that fit.
-use Rattle.std.proofs.Common.{◌≡◌, ◌≢◌, ◌⊎◌, inl, inr, ℕ, zero, suc, ◌+◌, ◌<◌, ◌≤◌, Bool, true, false, cond, refl, sym, ap, ◌∙◌, subst, List, [], ◌∷◌, ◌++◌, map, length, get_or, All, Option, Some, None, arith}
+use Rattle.std.proofs.Common.{◌≡◌, ◌⊎◌, inl, inr, ℕ, zero, suc, ◌+◌, ◌<◌, ◌≤◌, cond, refl, sym, ap, ◌∙◌, subst, List, [], ◌∷◌, ◌++◌, map, length, get_or, arith}
 use Rattle.std.specs.List.{AllByRecursion}
 use Rattle.std.proofs.lemmas.List.{length-map}
 use Rattle.std.proofs.lemmas.List.Elements.{recursion_from_All}
@@ -9,13 +9,13 @@ use Rattle.op_base.specs.Columns.{Row, IsIn, Lies}
 use Rattle.flow_graph.specs.declared.op_kind.OpKind.{OpKind}
 use Rattle.flow_graph.specs.declared.op_kind.OpKind.TheVariants as kind
 use Rattle.flow_graph.specs.declared.route.Choice.{Choice}
-use Rattle.flow_graph.specs.Charts.{Chart, link_at, links_into, links_from, op_at, keys_at, is_seq, into_seq, width_at, first_width}
+use Rattle.flow_graph.specs.Charts.{Chart, link_at, links_into, links_from, op_at, keys_at, into_seq, width_at}
 use Rattle.flow_graph.specs.FlowShape.{IsShape, ForwardOrder}
 use Rattle.flow_graph.specs.Runs.{arranged_if}
 use Rattle.flow_rules.specs.Verdicts.{choice_at}
 use Rattle.list_run.specs.Held.{sent_by, sent_on, got_on}
 use Rattle.list_run.specs.Made.{made}
-use Rattle.list_run.specs.Routed.{Joins, routed, delivered}
+use Rattle.list_run.specs.Routed.{Joins, routed}
 use Rattle.list_run.specs.Runnable.{degree_at, first_into, IsBuilt, IsRow, IsRunnable, Passes}
 use Rattle.list_run.specs.Turns.{lists_after, got_in, sent_in}
 use Rattle.list_run.proofs.Links.{in_from, from_in}
@@ -161,15 +161,14 @@ pub got_fits : (c : Chart) (nodes : ℕ) (given : List (List Row)) (l : ℕ) →
 got_fits c nodes given l is j f =
     let n = degree_at c nodes (link_at c l).to in
     let sent = sent_in c nodes given l in
-    let j' = subst (λ (k : ℕ). Joins (into_seq c l) (choice_at c l).method k n) (sym f.0) j in
-    (
+    let j' = subst (λ (k : ℕ). Joins (into_seq c l) (choice_at c l).method k n) (sym f.0) j in (
       ap length is ∙ length-map (routed (choice_at c l).method n sent) (arranged_if (choice_at c l).sort) ∙ routed_long (into_seq c l) (choice_at c l).method n sent j',
       subst (λ (g : List (List Row)). Each (IsRow (width_at c l)) g) (sym is) (delivered_all (IsRow (width_at c l)) (choice_at c l) n sent f.1),
     )
 
 -- what is asked of a flow
 pub built_order : (c : Chart) (choices : List Choice) (nodes : ℕ) (given : List (List Row)) → IsRunnable c choices nodes given → Built c c.order
-built_order c choices nodes given r = all_map (λ o. o < length c.flow.ops) (λ o. (o < length c.flow.ops) × IsBuilt c o (op_at c o).kind) (λ o m. (m, r.built o m)) c.order (order_below c r.shape.order)
+built_order c choices nodes given r = all_map (λ o. o < length c.flow.ops) (λ o. (o < length c.flow.ops) × IsBuilt c o (op_at c o).kind) (λ o m. (m, r.run.built o m)) c.order (order_below c r.shape.order)
 
 pub from_ordered : (c : Chart) (choices : List Choice) (nodes : ℕ) (given : List (List Row)) → IsRunnable c choices nodes given → (l : ℕ) → l < length c.flow.links → IsIn (link_at c l).from c.order
 from_ordered c choices nodes given r l m = ordered c r.shape.order (link_at c l).from (r.shape.links l m).from
@@ -191,8 +190,8 @@ fits_from c choices nodes given r seen (o ∷ order) b f s l k i = go i (λ j. f
 
     here : (p : ℕ) → p < length c.flow.links → (link_at c p).from ≡ o → Fits c nodes given p
     here p m e =
-        let sent = sent_fits c nodes given o p r.shape b.0.0 b.0.1 m e (recursion_from_All (IsRow (width_at c p)) (get_or given p []) (r.rows p m)) input in
-        (sent, got_fits c nodes given p (got_means c choices nodes given r p m) (r.joins p m) sent)
+        let sent = sent_fits c nodes given o p r.shape b.0.0 b.0.1 m e (recursion_from_All (IsRow (width_at c p)) (get_or given p []) (r.run.rows p m)) input in
+        (sent, got_fits c nodes given p (got_means c choices nodes given r p m) (r.run.joins p m) sent)
 
     split : (p : ℕ) → (IsIn p (links_from c o) ⊎ IsIn p seen) → Fits c nodes given p
     split p (inl j) = let k = in_from c o p j in here p k.0 k.1

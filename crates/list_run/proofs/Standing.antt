@@ -1,10 +1,8 @@
 -- What stands after some turns stands after one more.
-use Rattle.std.proofs.Common.{◌≡◌, ◌≢◌, ◌⊎◌, inl, inr, ℕ, zero, suc, ◌+◌, ◌<◌, ◌≤◌, Bool, true, false, refl, sym, ap, ◌∙◌, subst, List, [], ◌∷◌, ◌++◌, length, take, get_or, All, Option, Some, None, arith}
+use Rattle.std.proofs.Common.{◌≡◌, ◌≢◌, ◌⊎◌, inl, inr, ℕ, zero, suc, ◌+◌, ◌<◌, Bool, refl, sym, ap, ◌∙◌, subst, List, [], ◌∷◌, ◌++◌, length, take, get_or, All, Option, Some, None, arith}
 use Rattle.std.specs.List.{AllByRecursion}
-use Rattle.std.proofs.lemmas.Bool.Decides.{eqb_tells}
 use Rattle.std.proofs.lemmas.List.Elements.{All-from_recursion}
-use Rattle.ds_value.specs.Canonical.{IsShort}
-use Rattle.ds_schema.specs.Rows.{InWidth, cols}
+use Rattle.ds_schema.specs.Rows.{InWidth}
 use Rattle.op_base.specs.Columns.{Row, IsIn, Lies, all_columns}
 use Rattle.flow_graph.specs.declared.op_kind.OpKind.{OpKind}
 use Rattle.flow_graph.specs.declared.op_kind.OpKind.TheVariants as kind
@@ -16,15 +14,14 @@ use Rattle.flow_graph.specs.FlowShape.{ForwardOrder, WrittenFits}
 use Rattle.flow_graph.specs.Runs.{RouteFits}
 use Rattle.flow_rules.specs.Verdicts.{choice_at, written_or_same}
 use Rattle.list_run.specs.declared.held.Held.{Held}
-use Rattle.list_run.specs.Held.{HasRoom, MaySend, Steps, sent_by, sent_on, got_on}
+use Rattle.list_run.specs.Held.{MaySend, Steps, sent_by, sent_on, got_on}
 use Rattle.list_run.specs.Routed.{Joins, SuitsRoute}
-use Rattle.list_run.specs.Runnable.{degree_at, first_into, row_count, IsBuilt, IsExport, IsRow, IsRunnable}
+use Rattle.list_run.specs.Runnable.{degree_at, first_into, row_count, IsExport, IsRow, IsRunnable}
 use Rattle.list_run.specs.Turns.{HadTurn, Stands, got_in, sent_in}
-use Rattle.list_run.proofs.Inputs.{first_member, only_input, ports_at}
 use Rattle.list_run.proofs.Links.{all_in, in_from, in_into}
 use Rattle.list_run.proofs.Ordered.{in_either, not_before, turn_more, turn_before, turn_now}
 use Rattle.list_run.proofs.RowsKept.{Each}
-use Rattle.list_run.proofs.Sizes.{Fed, fed_as, lies_in, same_sent, sent_again, got_means, all_fit, input_seen, built_order}
+use Rattle.list_run.proofs.Sizes.{Fed, fed_as, lies_in, same_sent, got_means, all_fit, input_seen}
 
 -- the inputs of the n-th operator leave operators that had their turns
 forward_at : (c : Chart) (seen order : List ℕ) → ForwardOrder c seen order → (n : ℕ) → n < length order → (l : ℕ) → IsIn l (links_into c (get_or order n 0)) → IsIn l seen ⊎ IsIn (link_at c l).from (take n order)
@@ -57,9 +54,9 @@ pub waits_for : (c : Chart) (choices : List Choice) (nodes : ℕ) (given : List 
 waits_for c choices nodes given n rest held r m b stands =
     let o = get_or c.order n 0 in
     fed_as (op_at c o).kind (IsIn (first_into c o) (links_into c o)) _ (λ i.
-        let k = in_into c o (first_into c o) i in
-        stands.waiting (first_into c o) k.0 (input_had c r.shape.order.forward n m (first_into c o) i) (λ h. not_before c r.shape.order n m (subst (HadTurn c n) k.1 h)))
-    (input_seen c o (op_at c o).kind r.shape b refl (r.built o b) (links_into c o) (lies_self (links_into c o) (links_into c o) (λ x i. i)))
+    let k = in_into c o (first_into c o) i in
+    stands.waiting (first_into c o) k.0 (input_had c r.shape.order.forward n m (first_into c o) i) (λ h. not_before c r.shape.order n m (subst (HadTurn c n) k.1 h)))
+    (input_seen c o (op_at c o).kind r.shape b refl (r.run.built o b) (links_into c o) (lies_self (links_into c o) (links_into c o) (λ x i. i)))
 
 -- what it sends is what is sent in the end
 pub held_sent : (c : Chart) (choices : List Choice) (nodes : ℕ) (given : List (List Row)) (n : ℕ) (rest : List (List Row)) (held : Held) → IsRunnable c choices nodes given → n < length c.order → get_or c.order n 0 < length c.flow.ops → Stands c nodes given n rest held →
@@ -67,8 +64,8 @@ pub held_sent : (c : Chart) (choices : List Choice) (nodes : ℕ) (given : List 
 held_sent c choices nodes given n rest held r m b stands l k e =
     let o = get_or c.order n 0 in
     ap (λ p. sent_by (op_at c p).kind (keys_at c p) (get_or held.waiting.items (first_into c p) []) (get_or rest l [])) e
-    ∙ same_sent c o (op_at c o).kind (r.built o b) (keys_at c o) (get_or held.waiting.items (first_into c o) []) (got_in c nodes given (first_into c o)) (get_or rest l []) (get_or given l []) (waits_for c choices nodes given n rest held r m b stands)
-        (stands.rest_is l k (λ h. not_before c r.shape.order n m (subst (HadTurn c n) e h)))
+    ∙ same_sent c o (op_at c o).kind (r.run.built o b) (keys_at c o) (get_or held.waiting.items (first_into c o) []) (got_in c nodes given (first_into c o)) (get_or rest l []) (get_or given l []) (waits_for c choices nodes given n rest held r m b stands)
+    (stands.rest_is l k (λ h. not_before c r.shape.order n m (subst (HadTurn c n) e h)))
     ∙ sym (ap (λ p. sent_by (op_at c p).kind (keys_at c p) (got_in c nodes given (first_into c p)) (get_or given l [])) e)
 
 -- rows suit the routes that are written
@@ -112,7 +109,7 @@ may_send c choices nodes given n rest held r m b stands = λ l k e.
     let route = route_fits (into_seq c l) (width_at c l) (get_or c.written l None) (r.shape.links l k).written in
     let P : List (List Row) → Type 0 = λ s. Joins (into_seq c l) (choice_at c l).method (length s) (degree_at c nodes (link_at c l).to) × All (All (SuitsRoute (choice_at c l).method)) s in
     subst P (sym (held_sent c choices nodes given n rest held r m b stands l k e)) (
-      subst (λ d. Joins (into_seq c l) (choice_at c l).method d (degree_at c nodes (link_at c l).to)) (sym fits.0) (r.joins l k),
+      subst (λ d. Joins (into_seq c l) (choice_at c l).method d (degree_at c nodes (link_at c l).to)) (sym fits.0) (r.run.joins l k),
       All-from_recursion (All (SuitsRoute (choice_at c l).method)) (sent_in c nodes given l) (suits_lists (choice_at c l).method (width_at c l) route (sent_in c nodes given l) fits.1),
     )
 

@@ -1,5 +1,5 @@
 -- What an operator's turn does, by its kind.
-use Rattle.std.proofs.Common.{◌≡◌, ◌≢◌, ℕ, zero, suc, ◌<◌, ◌==◌, Bool, true, false, cond, refl, sym, ap, ap₂, ◌∙◌, subst, List, [], ◌∷◌, map, length, get_or, set, All, arith}
+use Rattle.std.proofs.Common.{◌≡◌, ◌≢◌, ℕ, ◌<◌, Bool, true, false, cond, refl, sym, ap, ◌∙◌, subst, List, [], ◌∷◌, map, length, get_or, set, All}
 use Rattle.std.specs.Prelude.{nat_lt}
 use Rattle.std.proofs.lemmas.Bool.{lt-ltb}
 use Rattle.std.proofs.lemmas.List.{get_or-set_other, get_or-set_same, length-set}
@@ -7,7 +7,6 @@ use Rattle.streams.proofs.StreamLaws.{eq_true, eq_false}
 use Rattle.ds_schema.specs.declared.key.Key.{Key}
 use Rattle.op_base.specs.Columns.{Row, IsIn}
 use Rattle.flow_graph.specs.declared.op_kind.OpKind.{OpKind}
-use Rattle.flow_graph.specs.declared.op_kind.OpKind.TheVariants as kind
 use Rattle.flow_graph.specs.Charts.{Chart, link_at, links_from, op_at, keys_at, into_seq}
 use Rattle.flow_rules.specs.Verdicts.{choice_at}
 use Rattle.list_run.specs.declared.held.Held.{Held}

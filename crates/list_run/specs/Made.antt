@@ -1,5 +1,5 @@
 -- What an operator makes of the rows of one partition.
-use Rattle.std.specs.Prelude.{Bool, List, [], ◌∷◌}
+use Rattle.std.specs.Prelude.{List, [], ◌∷◌}
 use Rattle.ds_schema.specs.declared.key.Key.{Key}
 use Rattle.ds_schema.specs.Rows.{cols, ways}
 use Rattle.op_base.specs.Columns.{Row}

@@ -1,5 +1,5 @@
 -- The flows that are run here, the operators of such a flow, and what a run leaves.
-use Rattle.std.specs.Prelude.{◌≡◌, ℕ, ◌<◌, ◌-◌, ◌^◌, min, Bool, true, false, cond, List, [], ◌∷◌, length, map, get_or, All, ⊤}
+use Rattle.std.specs.Prelude.{◌≡◌, ℕ, ◌<◌, ◌-◌, ◌^◌, min, Bool, true, cond, List, [], length, map, get_or, All, ⊤}
 use Rattle.std.specs.List.{AllByRecursion}
 use Rattle.ds_value.specs.Canonical.{IsShort}
 use Rattle.op_base.specs.declared.fault.Fault.{Fault}
@@ -43,15 +43,19 @@ IsBuilt c o k = ⊥
 abbrev pub IsRow : ℕ → Row → Type 0
 IsRow width r = (length r ≡ width) × All IsShort r
 
--- a shaped flow with its choices, and by link the rows that imports put there
-pub record IsRunnable (c : Chart) (choices : List Choice) (nodes : ℕ) (sources : List (List Row)) : Type 0 where
-  pub shape : IsShape c
+-- a flow with its choices, and by link the rows that imports put there
+pub record CanRun (c : Chart) (choices : List Choice) (nodes : ℕ) (sources : List (List Row)) : Type 0 where
   pub chosen : choices ≡ map (choice_at c) (all_links c)
   pub some : 0 < nodes
   pub built : (o : ℕ) → o < length c.flow.ops → IsBuilt c o (op_at c o).kind
   pub joins : (l : ℕ) → l < length c.flow.links → Joins (into_seq c l) (choice_at c l).method (degree_at c nodes (link_at c l).from) (degree_at c nodes (link_at c l).to)
   pub given : length sources ≡ length c.flow.links
   pub rows : (l : ℕ) → l < length c.flow.links → All (IsRow (width_at c l)) (get_or sources l [])
+
+-- the same of a shaped flow
+pub record IsRunnable (c : Chart) (choices : List Choice) (nodes : ℕ) (sources : List (List Row)) : Type 0 where
+  pub shape : IsShape c
+  pub run : CanRun c choices nodes sources
 
 abbrev pub IsImport : Op → Type 0
 IsImport op = (lines : List Line) × (rejects : Bool) × (beyond : List Fault) × (op ≡ import lines rejects beyond)

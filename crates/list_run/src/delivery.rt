@@ -29,7 +29,13 @@ fn collect(alloc: Global, sent: Partitions) -> Result<Partitions, NoMemory>
     one_partition(alloc, join(alloc, sent)?)
 }
 
-fn bring(alloc: Global, route: &Route, sequential: bool, sent: Partitions, count: u32) -> Result<Partitions, NoMemory>
+fn bring(
+    alloc: Global,
+    route: &Route,
+    sequential: bool,
+    sent: Partitions,
+    count: u32,
+) -> Result<Partitions, NoMemory>
     requires some { 0 < count }
     requires joins { Joins sequential route.now (length sent) count }
     requires rows { All (All (SuitsRoute route.now)) sent }
@@ -46,7 +52,13 @@ fn bring(alloc: Global, route: &Route, sequential: bool, sent: Partitions, count
 
 /// What comes at the partitions of the consumer by a route. Where the route leaves it open, the
 /// rows of the first producer come first.
-pub fn route_rows(alloc: Global, route: &Route, sequential: bool, sent: Partitions, count: u32) -> Result<Partitions, NoMemory>
+pub fn route_rows(
+    alloc: Global,
+    route: &Route,
+    sequential: bool,
+    sent: Partitions,
+    count: u32,
+) -> Result<Partitions, NoMemory>
     requires some { 0 < count }
     requires joins { Joins sequential route.now (length sent) count }
     requires rows { All (All (SuitsRoute route.now)) sent }
@@ -70,7 +82,13 @@ fn sort_each(alloc: Global, keys: &KeyList, lists: Partitions) -> Result<Partiti
 }
 
 /// What the consumer has: the rows by the chosen route, sorted where a sort was chosen.
-pub(crate) fn deliver(alloc: Global, choice: &Choice, sequential: bool, sent: Partitions, count: u32) -> Result<Partitions, NoMemory>
+pub(crate) fn deliver(
+    alloc: Global,
+    choice: &Choice,
+    sequential: bool,
+    sent: Partitions,
+    count: u32,
+) -> Result<Partitions, NoMemory>
     requires some { 0 < count }
     requires joins { Joins sequential choice.now.method (length sent) count }
     requires rows { All (All (SuitsRoute choice.now.method)) sent }

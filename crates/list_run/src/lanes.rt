@@ -86,7 +86,12 @@ fn next_turn(at: u32, count: u32) -> u32
 }
 
 /// Deals the rows of a producer to partitions in turn.
-fn deal_in_turn(first: u32, rows: Items<Row>, lists: &mut Vec<Items<Row>>, count: u32) -> Result<(), NoMemory>
+fn deal_in_turn(
+    first: u32,
+    rows: Items<Row>,
+    lists: &mut Vec<Items<Row>>,
+    count: u32,
+) -> Result<(), NoMemory>
     requires first { first < count }
     requires count { length lists.old.items ≡ count }
     ensures { OnOk result (Deals (turn_goes first count) rows lists.old.items lists.new.items) }
@@ -100,7 +105,11 @@ fn deal_in_turn(first: u32, rows: Items<Row>, lists: &mut Vec<Items<Row>>, count
 }
 
 /// Round robin into a parallel consumer.
-pub(crate) fn round_robin(alloc: Global, sent: Partitions, count: u32) -> Result<Partitions, NoMemory>
+pub(crate) fn round_robin(
+    alloc: Global,
+    sent: Partitions,
+    count: u32,
+) -> Result<Partitions, NoMemory>
     requires { 0 < count }
     ensures { IfOk result (λ got. got ≡ dealt (λ p t r. (p + t) % count) count sent) }
 {
@@ -114,7 +123,12 @@ pub(crate) fn round_robin(alloc: Global, sent: Partitions, count: u32) -> Result
 }
 
 /// Deals the rows of a producer to the partitions in which a place puts them.
-fn deal_by_place(place: &Place, rows: Items<Row>, lists: &mut Vec<Items<Row>>, count: u32) -> Result<(), NoMemory>
+fn deal_by_place(
+    place: &Place,
+    rows: Items<Row>,
+    lists: &mut Vec<Items<Row>>,
+    count: u32,
+) -> Result<(), NoMemory>
     requires some { 0 < count }
     requires count { length lists.old.items ≡ count }
     requires rows { All (SuitsPlace place.now) rows }
@@ -128,7 +142,12 @@ fn deal_by_place(place: &Place, rows: Items<Row>, lists: &mut Vec<Items<Row>>, c
 }
 
 /// To the partitions in which a place puts the rows.
-fn by_place(alloc: Global, place: &Place, sent: Partitions, count: u32) -> Result<Partitions, NoMemory>
+fn by_place(
+    alloc: Global,
+    place: &Place,
+    sent: Partitions,
+    count: u32,
+) -> Result<Partitions, NoMemory>
     requires some { 0 < count }
     requires rows { All (All (SuitsPlace place.now)) sent }
     ensures { IfOk result (λ got. got ≡ dealt (λ p t r. place_number place.now r count) count sent) }
@@ -141,7 +160,12 @@ fn by_place(alloc: Global, place: &Place, sent: Partitions, count: u32) -> Resul
 }
 
 /// By the hash of some columns.
-pub(crate) fn by_hash(alloc: Global, columns: &Items<u32>, sent: Partitions, count: u32) -> Result<Partitions, NoMemory>
+pub(crate) fn by_hash(
+    alloc: Global,
+    columns: &Items<u32>,
+    sent: Partitions,
+    count: u32,
+) -> Result<Partitions, NoMemory>
     requires some { 0 < count }
     requires rows { All (All (SuitsRoute (Route.Hash columns.now))) sent }
     ensures { IfOk result (λ got. got ≡ routed (Route.Hash columns.now) count sent) }

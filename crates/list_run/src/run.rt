@@ -7,7 +7,7 @@ ghost use Rattle.flow_graph.specs.Charts.{all_links, link_at, into_seq, is_seq, 
 ghost use Rattle.flow_rules.specs.Verdicts.{choice_at};
 ghost use Rattle.list_run.specs.Held.{HasRoom, MaySend, Moves, Puts, Steps, leaves, leaves_but, made_at, outputs, sent_on};
 ghost use Rattle.list_run.specs.Routed.{Joins, SuitsRoute};
-ghost use Rattle.list_run.specs.Runnable.{IsBuilt, IsRunOf, IsRunnable, OpsAre, degree_at, first_into, row_count};
+ghost use Rattle.list_run.specs.Runnable.{CanRun, IsBuilt, IsRunOf, IsRunnable, OpsAre, degree_at, first_into, row_count};
 ghost use Rattle.list_run.specs.Turns.{Stands};
 ghost use Rattle.flow_graph.specs.Operators.{Op};
 
@@ -29,7 +29,9 @@ fn count_rows(lists: &Partitions) -> u64
 {
     let mut count: u64 = 0;
     for rows in lists.as_slice() {
-        count = count.saturating_add(rows.as_slice().len() as u64).min(COUNTED);
+        count = count
+            .saturating_add(rows.as_slice().len() as u64)
+            .min(COUNTED);
     }
     count
 }
@@ -83,7 +85,15 @@ fn leaves(shaped: &Shaped, op: u32, link: usize) -> bool
 }
 
 /// Puts on a link what its producer's partitions have for it.
-fn put(alloc: Global, shaped: &Shaped, choices: &[Choice], nodes: u32, link: usize, sent: Partitions, held: &mut Held) -> Result<(), NoMemory>
+fn put(
+    alloc: Global,
+    shaped: &Shaped,
+    choices: &[Choice],
+    nodes: u32,
+    link: usize,
+    sent: Partitions,
+    held: &mut Held,
+) -> Result<(), NoMemory>
     requires link { link < length shaped.now.flow.links }
     requires chosen { choices.now ≡ map (choice_at shaped.now) (all_links shaped.now) }
     requires some { 0 < nodes }
@@ -101,7 +111,16 @@ fn put(alloc: Global, shaped: &Shaped, choices: &[Choice], nodes: u32, link: usi
 }
 
 /// Puts a copy of what an operator made on each link that leaves it, but the last.
-fn put_copies(alloc: Global, shaped: &Shaped, choices: &[Choice], nodes: u32, op: u32, last: usize, sent: &Partitions, held: &mut Held) -> Result<(), NoMemory>
+fn put_copies(
+    alloc: Global,
+    shaped: &Shaped,
+    choices: &[Choice],
+    nodes: u32,
+    op: u32,
+    last: usize,
+    sent: &Partitions,
+    held: &mut Held,
+) -> Result<(), NoMemory>
     requires chosen { choices.now ≡ map (choice_at shaped.now) (all_links shaped.now) }
     requires some { 0 < nodes }
     requires room { HasRoom shaped.now held.old }
@@ -119,7 +138,15 @@ fn put_copies(alloc: Global, shaped: &Shaped, choices: &[Choice], nodes: u32, op
 }
 
 /// Puts what an operator made on each link that leaves it.
-fn send(alloc: Global, shaped: &Shaped, choices: &[Choice], nodes: u32, op: u32, sent: Partitions, held: &mut Held) -> Result<(), NoMemory>
+fn send(
+    alloc: Global,
+    shaped: &Shaped,
+    choices: &[Choice],
+    nodes: u32,
+    op: u32,
+    sent: Partitions,
+    held: &mut Held,
+) -> Result<(), NoMemory>
     requires chosen { choices.now ≡ map (choice_at shaped.now) (all_links shaped.now) }
     requires some { 0 < nodes }
     requires room { HasRoom shaped.now held.old }
@@ -135,7 +162,15 @@ fn send(alloc: Global, shaped: &Shaped, choices: &[Choice], nodes: u32, op: u32,
 }
 
 /// Puts on each link that leaves an import the rows that are given for it.
-fn send_sources(alloc: Global, shaped: &Shaped, choices: &[Choice], nodes: u32, op: u32, sources: &mut Vec<Items<Row>>, held: &mut Held) -> Result<(), NoMemory>
+fn send_sources(
+    alloc: Global,
+    shaped: &Shaped,
+    choices: &[Choice],
+    nodes: u32,
+    op: u32,
+    sources: &mut Vec<Items<Row>>,
+    held: &mut Held,
+) -> Result<(), NoMemory>
     requires chosen { choices.now ≡ map (choice_at shaped.now) (all_links shaped.now) }
     requires some { 0 < nodes }
     requires room { HasRoom shaped.now held.old }
@@ -166,7 +201,14 @@ fn keep(alloc: Global, shaped: &Shaped, op: u32, held: &mut Held)
 }
 
 /// Takes what came at a copy, a tsort or a remdup, and sends what it makes of that.
-fn pass_on(alloc: Global, shaped: &Shaped, choices: &[Choice], nodes: u32, op: u32, held: &mut Held) -> Result<(), NoMemory>
+fn pass_on(
+    alloc: Global,
+    shaped: &Shaped,
+    choices: &[Choice],
+    nodes: u32,
+    op: u32,
+    held: &mut Held,
+) -> Result<(), NoMemory>
     requires op { op < length shaped.now.flow.ops }
     requires parts { length shaped.now.parts ≡ length shaped.now.flow.ops }
     requires chosen { choices.now ≡ map (choice_at shaped.now) (all_links shaped.now) }
@@ -183,7 +225,15 @@ fn pass_on(alloc: Global, shaped: &Shaped, choices: &[Choice], nodes: u32, op: u
 }
 
 /// An operator's turn: it takes what waits for it, and puts what it makes of that on its links.
-fn run_operator(alloc: Global, shaped: &Shaped, choices: &[Choice], nodes: u32, op: u32, sources: &mut Vec<Items<Row>>, held: &mut Held) -> Result<(), NoMemory>
+fn run_operator(
+    alloc: Global,
+    shaped: &Shaped,
+    choices: &[Choice],
+    nodes: u32,
+    op: u32,
+    sources: &mut Vec<Items<Row>>,
+    held: &mut Held,
+) -> Result<(), NoMemory>
     requires shape { IsShape shaped.now }
     requires op { op < length shaped.now.flow.ops }
     requires built { IsBuilt shaped.now op (op_at shaped.now op).kind }
@@ -211,7 +261,14 @@ fn run_operator(alloc: Global, shaped: &Shaped, choices: &[Choice], nodes: u32, 
 }
 
 /// Each operator's turn, in the order of the flow.
-fn run_all(alloc: Global, shaped: &Shaped, choices: &[Choice], nodes: u32, sources: &mut Vec<Items<Row>>, held: &mut Held) -> Result<(), NoMemory>
+fn run_all(
+    alloc: Global,
+    shaped: &Shaped,
+    choices: &[Choice],
+    nodes: u32,
+    sources: &mut Vec<Items<Row>>,
+    held: &mut Held,
+) -> Result<(), NoMemory>
     requires runs { IsRunnable shaped.now choices.now nodes sources.old.items }
     requires room { HasRoom shaped.now held.old }
     ensures { OnOk result (Stands shaped.now nodes sources.old.items (length shaped.now.order) sources.new.items held.new) }
@@ -223,12 +280,23 @@ fn run_all(alloc: Global, shaped: &Shaped, choices: &[Choice], nodes: u32, sourc
 }
 
 /// Runs a flow over the rows that its imports put on their links, by link.
-pub fn run_lists(alloc: Global, shaped: &Shaped, choices: &[Choice], nodes: u32, sources: Items<Items<Row>>) -> Result<Ran, NoMemory>
-    requires { IsRunnable shaped.now choices.now nodes sources }
+pub fn run_lists(
+    alloc: Global,
+    shaped: &Shaped,
+    choices: &[Choice],
+    nodes: u32,
+    sources: Items<Items<Row>>,
+) -> Result<Ran, NoMemory>
+    requires { CanRun shaped.now choices.now nodes sources }
     ensures { IfOk result (λ ran. (ops : ℕ → Op) → OpsAre shaped.now sources ops → IsRunOf shaped.now nodes ops ran) }
 {
+    shaped.is_shaped();
     let flow = shaped.flow();
-    let mut held = Held::new(alloc, flow.links.as_slice().len(), flow.ops.as_slice().len())?;
+    let mut held = Held::new(
+        alloc,
+        flow.links.as_slice().len(),
+        flow.ops.as_slice().len(),
+    )?;
     let mut sources = sources.into_vec();
     run_all(alloc, shaped, choices, nodes, &mut sources, &mut held)?;
     let Held {

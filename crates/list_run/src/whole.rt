@@ -39,7 +39,11 @@ fn into_rows(alloc: Global, sent: Items<Sent>) -> Result<Items<Row>, NoMemory>
 }
 
 /// What the operator gives of all rows.
-pub(crate) fn run_whole<O: Operator + Drop>(alloc: Global, op: O, rows: Items<Row>) -> Result<Items<Row>, NoMemory>
+pub(crate) fn run_whole<O: Operator + Drop>(
+    alloc: Global,
+    op: O,
+    rows: Items<Row>,
+) -> Result<Items<Row>, NoMemory>
     requires fresh { O.Stands op [] }
     requires one { IsOnePort (O.stream op) }
     requires suits { (feeds : List (Feed Cells)) → O.suits op feeds ≡ true }

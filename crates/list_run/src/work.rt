@@ -24,7 +24,12 @@ pub fn sort_rows(alloc: Global, keys: KeyList, rows: Items<Row>) -> Result<Items
 }
 
 /// The first row, or the last, of each run of rows of one key value.
-pub fn keep_one(alloc: Global, keys: KeyList, last: bool, rows: Items<Row>) -> Result<Items<Row>, NoMemory>
+pub fn keep_one(
+    alloc: Global,
+    keys: KeyList,
+    last: bool,
+    rows: Items<Row>,
+) -> Result<Items<Row>, NoMemory>
     ensures { IfOk result (λ given. given ≡ by_runs (ways keys) (cols keys ∷ []) (λ v same. one_row last (input 0 same)) (rows ∷ [])) }
 {
     let given = run_whole(alloc, remdup(alloc, keys, last)?, rows)?;
@@ -42,7 +47,12 @@ fn first_keys(alloc: Global, parts: &OpParts) -> Result<KeyList, NoMemory>
 }
 
 /// What a copy, a tsort or a remdup makes of the rows.
-pub(crate) fn work_on(alloc: Global, kind: &OpKind, parts: &OpParts, rows: Items<Row>) -> Result<Items<Row>, NoMemory>
+pub(crate) fn work_on(
+    alloc: Global,
+    kind: &OpKind,
+    parts: &OpParts,
+    rows: Items<Row>,
+) -> Result<Items<Row>, NoMemory>
     ensures { IfOk result (λ given. given ≡ made kind.now parts.now.keys rows) }
 {
     match kind {
@@ -53,7 +63,12 @@ pub(crate) fn work_on(alloc: Global, kind: &OpKind, parts: &OpParts, rows: Items
 }
 
 /// The same of each partition.
-pub(crate) fn work_on_each(alloc: Global, kind: &OpKind, parts: &OpParts, lists: Partitions) -> Result<Partitions, NoMemory>
+pub(crate) fn work_on_each(
+    alloc: Global,
+    kind: &OpKind,
+    parts: &OpParts,
+    lists: Partitions,
+) -> Result<Partitions, NoMemory>
     ensures { IfOk result (λ given. given ≡ map (made kind.now parts.now.keys) lists) }
 {
     let mut given = Items::new(alloc);

@@ -8,3 +8,6 @@ mod options;
 mod value;
 
 pub use flow::print_flow;
+
+#[cfg(test)]
+mod tests;

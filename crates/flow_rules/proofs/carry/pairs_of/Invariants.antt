@@ -6,5 +6,5 @@ use Rattle.flow_rules.proofs.carry.pairs_of.Given as goal
 abbrev pub invariant-loop-i : goal.invariant-loop-i
 invariant-loop-i l = record {
   within : l.i ≤ length l.others;
-  rest : l.pairs.items ++ pairs_of (drop l.i l.columns) (drop l.i l.others) ≡ pairs_of l.columns l.others
+  rest : l.pairs.items ++ pairs_of (drop l.i l.columns) (drop l.i l.others) ≡ pairs_of l.columns l.others;
 }

@@ -6,5 +6,5 @@ use Rattle.flow_rules.proofs.rows.all_agree_in.Given as goal
 abbrev pub invariant-loop-i : goal.invariant-loop-i
 invariant-loop-i l = record {
   within : l.i ≤ length l.states;
-  rest : all_agree_in l.keys l.states ≡ all_agree_in (drop l.i l.keys) (drop l.i l.states)
+  rest : all_agree_in l.keys l.states ≡ all_agree_in (drop l.i l.keys) (drop l.i l.states);
 }

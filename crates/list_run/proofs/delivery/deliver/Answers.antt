@@ -1,4 +1,4 @@
-use Rattle.std.proofs.Common.{◌≡◌, ap, sym, ◌∙◌, map, map-id}
+use Rattle.std.proofs.Common.{ap, sym, ◌∙◌, map, map-id}
 use Rattle.flow_graph.specs.Runs.{arranged_if}
 use Rattle.list_run.specs.Routed.{routed}
 use Rattle.list_run.proofs.delivery.deliver.Goals as goal

@@ -1,4 +1,4 @@
-use Rattle.std.proofs.Common.{◌≡◌, ap, sym, subst, ◌∙◌, length}
+use Rattle.std.proofs.Common.{ap, sym, subst, ◌∙◌, length}
 use Rattle.flow_graph.specs.Runs.{Arrives}
 use Rattle.list_run.proofs.Routes.{routed_long, routed_arrives}
 use Rattle.list_run.proofs.delivery.route_rows.Goals as goal

@@ -1,5 +1,4 @@
-use Rattle.std.proofs.Common.{◌≡◌, ◌∙◌, ℕ, ap, sym, subst, List, All}
-use Rattle.op_base.specs.Columns.{Row}
+use Rattle.std.proofs.Common.{◌∙◌, ap, sym, subst, All}
 use Rattle.ds_place.specs.declared.place.Place.TheVariants.{Hash}
 use Rattle.ds_place.specs.Places.{place_number}
 use Rattle.list_run.specs.Dealt.{dealt}

@@ -1,8 +1,8 @@
-use Rattle.std.proofs.Common.{rules, ◌≡◌, ◌<◌, ◌∷◌, [], ◌∙◌, ℕ, ap, sym, refl, subst, length, List, All, arith}
+use Rattle.std.proofs.Common.{rules, ◌≡◌, ◌∙◌, ℕ, ap, sym, refl, subst, length, All}
 use Rattle.std.specs.Vec.Iter.{into_iter_items}
 use Rattle.op_base.specs.Columns.{Row}
 use Rattle.ds_place.specs.Places.{place_number}
-use Rattle.list_run.specs.Dealt.{Deals, dealt}
+use Rattle.list_run.specs.Dealt.{dealt}
 use Rattle.list_run.specs.Routed.{SuitsPlace}
 use Rattle.list_run.proofs.Ended.{had_all, is_next}
 use Rattle.list_run.proofs.Dealing.{Dealt-more, Dealt-is}

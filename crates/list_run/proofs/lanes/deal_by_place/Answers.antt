@@ -1,4 +1,4 @@
-use Rattle.std.proofs.Common.{◌≡◌, ◌<◌, ◌∷◌, [], ℕ, sym, subst, length, List, arith}
+use Rattle.std.proofs.Common.{◌<◌, ℕ, sym, subst, length, arith}
 use Rattle.op_base.specs.Columns.{Row}
 use Rattle.ds_place.specs.Places.{place_number}
 use Rattle.list_run.specs.Dealt.{Deals}

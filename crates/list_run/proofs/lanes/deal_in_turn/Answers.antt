@@ -1,5 +1,4 @@
-use Rattle.std.proofs.Common.{◌≡◌, ◌<◌, ◌+◌, ◌%◌, ◌∷◌, [], ◌∙◌, ap, sym, subst, length, List, ℕ, length-append, arith}
-use Rattle.op_base.specs.Columns.{Row}
+use Rattle.std.proofs.Common.{◌<◌, ◌+◌, ◌%◌, ◌∷◌, [], ◌∙◌, ap, sym, subst, length, length-append, arith}
 use Rattle.std.proofs.lemmas.Nat.{mod_below}
 use Rattle.list_run.specs.Dealt.{Deals, turn_goes}
 use Rattle.list_run.proofs.Dealing.{Deals-more, turn-next}

@@ -1,9 +1,8 @@
-use Rattle.std.proofs.Common.{rules, map-id, ◌≡◌, ◌<◌, ◌+◌, ◌%◌, ◌∷◌, [], ◌∙◌, ap, sym, subst, length, List, ℕ, length-append, arith}
+use Rattle.std.proofs.Common.{rules, ◌≡◌, ◌<◌, ◌+◌, ◌%◌, ◌∷◌, [], ◌∙◌, ap, sym, subst, length, ℕ, length-append, arith}
 use Rattle.op_base.specs.Columns.{Row}
 use Rattle.std.proofs.lemmas.Nat.{mod_below}
-use Rattle.flow_graph.specs.Destinations.{SentFrom}
-use Rattle.std.specs.Vec.Iter.{into_iter_items, into_iter_len}
-use Rattle.list_run.specs.Dealt.{Dealt, dealt, turn_goes}
+use Rattle.std.specs.Vec.Iter.{into_iter_items}
+use Rattle.list_run.specs.Dealt.{dealt, turn_goes}
 use Rattle.list_run.proofs.Ended.{had_all}
 use Rattle.list_run.proofs.Dealing.{Dealt-more, Dealt-is, turn-next, turn_way}
 use Rattle.list_run.proofs.lanes.round_robin.Goals as goal

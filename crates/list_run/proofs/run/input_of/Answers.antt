@@ -1,4 +1,4 @@
-use Rattle.std.proofs.Common.{◌≡◌, ◌≢◌, ◌<◌, ◌≤◌, ℕ, ap, sym, subst, ◌∙◌, length, get_or, arith}
+use Rattle.std.proofs.Common.{◌<◌, ◌≤◌, ap, sym, subst, ◌∙◌, length, get_or, arith}
 use Rattle.flow_graph.specs.Charts.{no_link}
 use Rattle.list_run.proofs.Links.{same_at, first_is, first_none}
 use Rattle.list_run.proofs.run.input_of.Goals as goal

@@ -1,4 +1,4 @@
-use Rattle.std.proofs.Common.{◌≡◌, ◌≢◌, ◌<◌, ℕ}
+use Rattle.std.proofs.Common.{◌≢◌, ◌<◌, ℕ}
 use Rattle.flow_graph.specs.Charts.{link_at}
 use Rattle.list_run.proofs.run.input_of.Given as goal
 

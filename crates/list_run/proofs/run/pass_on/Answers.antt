@@ -1,4 +1,4 @@
-use Rattle.std.proofs.Common.{◌≡◌, ◌<◌, ◌∙◌, [], refl, ap, sym, subst, ℕ, List, map, length, get_or, set}
+use Rattle.std.proofs.Common.{◌∙◌, [], refl, ap, subst, List, map, get_or, set}
 use Rattle.ds_schema.specs.declared.key.Key.{Key}
 use Rattle.op_base.specs.Columns.{Row}
 use Rattle.flow_graph.specs.declared.op_kind.OpKind.{OpKind}
@@ -6,7 +6,7 @@ use Rattle.flow_graph.specs.declared.flow.OpSpec.{OpSpec}
 use Rattle.flow_graph.specs.declared.parts.OpParts.{OpParts}
 use Rattle.flow_graph.specs.Charts.{op_at, no_op, keys_at}
 use Rattle.list_run.specs.declared.held.Held.{Held}
-use Rattle.list_run.specs.Held.{Puts, outputs, made_at}
+use Rattle.list_run.specs.Held.{Puts, outputs}
 use Rattle.list_run.specs.Made.{made}
 use Rattle.list_run.proofs.Links.{same_at}
 use Rattle.list_run.proofs.run.pass_on.Goals as goal
@@ -22,9 +22,9 @@ returns c =
     let keys = ap (λ (p : OpParts). p.keys) c.parts.ensures in
     let got = c.take_at-got.ensures.list ∙ ap (λ i. get_or olds i []) c.input_of.ensures in
     let sent = c.in_ok-made.ensures
-        ∙ ap (λ (k : OpKind). map (made k c.parts.result.now.keys) c.take_at-got.result) kind
-        ∙ ap (λ (ks : List (List Key)). map (made (op_at chart op).kind ks) c.take_at-got.result) keys
-        ∙ ap (map (made (op_at chart op).kind (keys_at chart op))) got in
+    ∙ ap (λ (k : OpKind). map (made k c.parts.result.now.keys) c.take_at-got.result) kind
+    ∙ ap (λ (ks : List (List Key)). map (made (op_at chart op).kind ks) c.take_at-got.result) keys
+    ∙ ap (map (made (op_at chart op).kind (keys_at chart op))) got in
     let mid : Held = record { waiting = c.take_at-got.new.lists; counts = c.args.held.now.counts; sinks = c.args.held.now.sinks } in
     record {
       mid = mid;

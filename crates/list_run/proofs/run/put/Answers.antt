@@ -1,11 +1,10 @@
-use Rattle.std.proofs.Common.{refl, ◌≡◌, ◌<◌, ℕ, ap, sym, subst, ◌∙◌, length, List, get_or, set, All, arith}
-use Rattle.op_base.specs.Columns.{Row}
+use Rattle.std.proofs.Common.{refl, ap, sym, subst, ◌∙◌, length, set, All, arith}
 use Rattle.flow_graph.specs.declared.route.Choice.{Choice}
 use Rattle.flow_graph.specs.declared.flow.LinkSpec.{LinkSpec}
-use Rattle.flow_graph.specs.Charts.{link_at, no_link, into_seq, is_seq, op_at}
+use Rattle.flow_graph.specs.Charts.{link_at, into_seq, is_seq, op_at}
 use Rattle.flow_rules.specs.Verdicts.{choice_at}
-use Rattle.list_run.specs.Routed.{Joins, SuitsRoute, delivered}
-use Rattle.list_run.specs.Runnable.{degree_at, row_count}
+use Rattle.list_run.specs.Routed.{SuitsRoute, delivered}
+use Rattle.list_run.specs.Runnable.{degree_at}
 use Rattle.list_run.proofs.Links.{choices_long, choice_is}
 use Rattle.list_run.proofs.Puts.{put_one, joins_as, link_read}
 use Rattle.list_run.proofs.run.put.Goals as goal

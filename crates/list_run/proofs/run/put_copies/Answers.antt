@@ -1,4 +1,4 @@
-use Rattle.std.proofs.Common.{rules, ◌≡◌, ◌+◌, ◌∙◌, ap, sym, true, false, cond, ℕ, Bool}
+use Rattle.std.proofs.Common.{rules, ◌≡◌, ◌+◌, ◌∙◌, ap, true, false, cond, ℕ, Bool}
 use Rattle.std.specs.Prelude.{nat_lt}
 use Rattle.streams.proofs.StreamLaws.{eq_false}
 use Rattle.list_run.specs.Held.{leaves, leaves_but}

@@ -1,7 +1,6 @@
-use Rattle.std.proofs.Common.{◌≡◌, ◌<◌, ap, subst, sym, length, get_or, ℕ, List, []}
+use Rattle.std.proofs.Common.{◌<◌, subst, sym, length, get_or, ℕ, List, []}
 use Rattle.flow_graph.specs.Charts.{op_at}
 use Rattle.list_run.specs.Held.{MaySend, Steps, sent_on}
-use Rattle.list_run.specs.Turns.{Stands}
 use Rattle.list_run.specs.Runnable.{IsBuilt}
 use Rattle.list_run.proofs.Ordered.{at_place, order_below}
 use Rattle.list_run.proofs.Standing.{may_send, stands_next}
@@ -18,7 +17,7 @@ run_operator-requires-clause-built c =
     let chart = c.args.shaped.now in
     let m = subst (λ (xs : List ℕ). c.loop-op.op-index < length xs) c.order-op-items.ensures c.loop-op-test.true in
     subst (λ (xs : List ℕ). IsBuilt chart (get_or xs c.loop-op.op-index 0) (op_at chart (get_or xs c.loop-op.op-index 0)).kind) (sym c.order-op-items.ensures)
-    (c.requires.runs.built (get_or chart.order c.loop-op.op-index 0) (at_place (λ o. o < length chart.flow.ops) chart.order c.loop-op.op-index m (order_below chart c.requires.runs.shape.order)))
+    (c.requires.runs.run.built (get_or chart.order c.loop-op.op-index 0) (at_place (λ o. o < length chart.flow.ops) chart.order c.loop-op.op-index m (order_below chart c.requires.runs.shape.order)))
 
 pub run_operator-requires-clause-may : goal.run_operator-requires-clause-may
 run_operator-requires-clause-may c =

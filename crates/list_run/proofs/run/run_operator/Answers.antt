@@ -1,4 +1,4 @@
-use Rattle.std.proofs.Common.{◌≡◌, ◌⊎◌, inl, inr, None, ◌<◌, ◌∙◌, ◌∷◌, [], refl, ap, sym, subst, ℕ, List, map, length, get_or}
+use Rattle.std.proofs.Common.{◌≡◌, inl, inr, None, ◌∙◌, ◌∷◌, [], refl, ap, sym, subst, List, map, length, get_or}
 use Rattle.ds_schema.specs.declared.key.Key.{Key}
 use Rattle.op_base.specs.Columns.{Row}
 use Rattle.flow_graph.specs.declared.op_kind.OpKind.{OpKind}
@@ -11,7 +11,7 @@ use Rattle.list_run.specs.Made.{made}
 use Rattle.list_run.specs.Runnable.{IsBuilt, IsExport}
 use Rattle.list_run.proofs.Links.{same_at}
 use Rattle.list_run.proofs.Inputs.{only_input, ports_at}
-use Rattle.list_run.proofs.Steps.{import_sent, may_as, step_import, passes, step_export}
+use Rattle.list_run.proofs.Steps.{import_sent, may_as, passes, step_export}
 use Rattle.list_run.proofs.run.run_operator.Goals as goal
 
 pub send_sources-requires-clause-may : goal.send_sources-requires-clause-may
@@ -39,7 +39,7 @@ returns-in_ok-pass_on-in-Copy c =
     let spec : op_at chart op ≡ get_or c.as_slice.result.now op c.index-as_slice-op.result = sym (ap (λ os. get_or os op c.index-as_slice-op.result) (c.as_slice.ensures ∙ ap (λ f. f.ops) c.flow.ensures) ∙ same_at chart.flow.ops op c.index-as_slice-op.result no_op c.requires.op) in
     let known = ap (λ (s : OpSpec). s.kind) spec in
     let pass = λ (k : OpKind) (e : (op_at chart op).kind ≡ k) (f : FormPorts (kind_form k (keys_at chart op) (cols_at chart op) (get_or chart.stored op None) (first_width chart op)) (length (links_into chart op)) → length (links_into chart op) ≡ 1) (g : (keys : List (List Key)) (parts : List (List Row)) (rows : List Row) → sent_by k keys parts rows ≡ map (made k keys) parts) (h : IsExport k → ⊥).
-        passes chart c.args.nodes op c.args.sources.now.items c.args.held.now c.pass_on.new.held k e g h (only_input chart op (f (ports_at chart c.requires.shape op c.requires.op k e))).1 c.in_ok-pass_on-in-Copy.ensures in
+    passes chart c.args.nodes op c.args.sources.now.items c.args.held.now c.pass_on.new.held k e g h (only_input chart op (f (ports_at chart c.requires.shape op c.requires.op k e))).1 c.in_ok-pass_on-in-Copy.ensures in
     elim c.in-Copy.is [
       | inl e ↦ pass kind.Copy (known ∙ e) (λ n. n) (λ keys parts rows. refl) (λ x. x)
       | inr t ↦ elim t [

@@ -1,7 +1,6 @@
-use Rattle.std.proofs.Common.{rules, ◌≡◌, ◌≢◌, ◌≤◌, ◌+◌, ◌∙◌, ◌∷◌, [], ap, sym, true, false, cond, ℕ, Bool, List, length, get_or, arith}
+use Rattle.std.proofs.Common.{rules, ◌≡◌, ◌≢◌, ◌+◌, ◌∙◌, ◌∷◌, [], ap, sym, true, false, cond, ℕ, Bool, length, get_or, arith}
 use Rattle.std.specs.Prelude.{nat_lt}
 use Rattle.std.proofs.lemmas.List.{get_or-set_other, length-set}
-use Rattle.op_base.specs.Columns.{Row}
 use Rattle.list_run.specs.Held.{leaves}
 use Rattle.list_run.proofs.Puts.{put_more, below_more_yes}
 use Rattle.list_run.proofs.run.send_sources.Goals as goal

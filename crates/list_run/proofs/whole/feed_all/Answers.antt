@@ -1,4 +1,4 @@
-use Rattle.std.proofs.Common.{◌≡◌, ap, sym, subst, ◌∙◌, refl, ◌∷◌, [], ◌++◌, List}
+use Rattle.std.proofs.Common.{sym, subst, ◌∙◌, refl, List}
 use Rattle.streams.specs.Streams.{Out}
 use Rattle.op_base.specs.declared.fault.Fault.{Fault}
 use Rattle.op_base.specs.Columns.{Row}

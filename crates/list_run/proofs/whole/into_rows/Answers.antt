@@ -1,4 +1,4 @@
-use Rattle.std.proofs.Common.{◌≡◌, ap, sym, ◌∙◌, ◌∷◌, [], ◌++◌}
+use Rattle.std.proofs.Common.{ap, sym, ◌∙◌, ◌∷◌, [], ◌++◌}
 use Rattle.list_run.proofs.Feeding.{sent-more}
 use Rattle.list_run.proofs.whole.into_rows.Goals as goal
 

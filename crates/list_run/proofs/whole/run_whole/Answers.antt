@@ -1,4 +1,4 @@
-use Rattle.std.proofs.Common.{◌≡◌, ap, sym, subst, ◌∙◌, refl, ◌∷◌, [], ◌++◌, List}
+use Rattle.std.proofs.Common.{subst, ◌∙◌, refl, ◌∷◌, [], ◌++◌}
 use Rattle.streams.specs.Streams.{emits}
 use Rattle.op_base.specs.Emits.{Adds}
 use Rattle.op_base.specs.Standing.{end_feed}
@@ -20,8 +20,7 @@ pub returns : goal.returns
 returns g c =
     let rows = c.args.rows in
     let stream = g.O.Operator.stream c.args.op in
-    let last = subst (λ s. Adds c.feed_all.new.emit c.end.new.emit (s.gives (row_feeds rows) (end_feed 0))) c.in_ok-feed_all.ensures.stream (c.in_ok-end.ensures.emits (row_feeds rows) c.in_ok-feed_all.ensures.stands) in
-    (
+    let last = subst (λ s. Adds c.feed_all.new.emit c.end.new.emit (s.gives (row_feeds rows) (end_feed 0))) c.in_ok-feed_all.ensures.stream (c.in_ok-end.ensures.emits (row_feeds rows) c.in_ok-feed_all.ensures.stands) in (
       emits stream (row_feeds rows) ++ stream.gives (row_feeds rows) (end_feed 0),
       gives_all stream c.requires.one rows,
       c.in_ok-given.ensures ∙ emitted _ _ _ _ _ _ c.new-emit.ensures c.in_ok-feed_all.ensures.emits last c.in_ok-finish.ensures.emits,

@@ -1,8 +1,6 @@
-use Rattle.std.proofs.Common.{◌≡◌, refl, ap, subst, sym, ◌∙◌}
+use Rattle.std.proofs.Common.{refl, subst, ◌∙◌}
 use Rattle.streams.specs.Streams.{Gives}
 use Rattle.op_base.specs.Standing.{RowStream}
-use Rattle.op_order.specs.Ordered.{tsort_stream}
-use Rattle.list_run.specs.Fed.{IsOnePort}
 use Rattle.list_run.proofs.Runs.{tsort_gives}
 use Rattle.list_run.proofs.work.sort_rows.Goals as goal
 
