@@ -3,8 +3,8 @@ use Rattle.std.specs.Prelude.{◌≡◌, ◌⊎◌, ℕ, Bool, List, [], take}
 use Rattle.ds_port.specs.FileMap.{FileMap}
 use Rattle.osh_call.specs.declared.answer.Answer.{Answer}
 use Rattle.osh_call.specs.declared.answer.Answer.TheVariants as answer
-use Rattle.osh_call.specs.Ends.{End, usage, unbuilt, bad_flow, bad_config, bad_shape, absent, refused, checked, mismatch, crowded, done, faulty}
-use Rattle.osh_call.specs.Leaves.{Leaves, with_files, outputs, printed}
+use Rattle.osh_ends.specs.Ends.{End, usage, unbuilt, bad_flow, bad_config, bad_shape, absent, refused, checked, mismatch, crowded, done, faulty}
+use Rattle.osh_ends.specs.Leaves.{Leaves, with_files, outputs, printed}
 
 -- the answer is that of the end
 abbrev pub Answers : Answer → End → Type 0

@@ -1,8 +1,2 @@
-pub mod Built
-pub mod Steps
-pub mod Reports
-pub mod FlowFiles
-pub mod Ends
-pub mod Leaves
 pub mod Answers
 pub mod Stages

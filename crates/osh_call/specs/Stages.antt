@@ -6,9 +6,9 @@ use Rattle.config_read.specs.Reading.{config_of}
 use Rattle.ds_port.specs.FileMap.{FileMap, file_at}
 use Rattle.flow_graph.specs.declared.flow.Flow.{Flow}
 use Rattle.osh_read.specs.Flows.{flow_of}
-use Rattle.osh_call.specs.Built.{is_built}
-use Rattle.osh_call.specs.Ends.{End, FlowIn, NodesIn, absent}
-use Rattle.osh_call.specs.Steps.{Reads}
+use Rattle.osh_ends.specs.Built.{is_built}
+use Rattle.osh_ends.specs.Ends.{End, FlowIn, NodesIn, absent}
+use Rattle.osh_ends.specs.Steps.{Reads}
 
 -- the flow in a file, and the nodes of the configuration in one
 abbrev pub FlowFile : FileMap → List ℕ → (Flow → End → Type 0) → End → Type 0

@@ -1,8 +1,5 @@
-//! What a call of the program comes to, stage by stage.
+//! The stages of a call of the program.
 #![tactic(auto)]
 
 mod answer;
-mod built;
-mod reports;
-mod say;
 mod stages;

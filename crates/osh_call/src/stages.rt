@@ -3,16 +3,16 @@
 ghost use Rattle.std.specs.Prelude.{◌≡◌, ◌⊎◌, IsTrue, IfOk, IfErr};
 ghost use Rattle.ds_port.specs.Causes.{HasCause};
 ghost use Rattle.osh_call.specs.Answers.{Stops};
-ghost use Rattle.osh_call.specs.Ends.{FlowIn, NodesIn};
+ghost use Rattle.osh_ends.specs.Ends.{FlowIn, NodesIn};
 ghost use Rattle.osh_call.specs.Stages.{FlowFile, NodesFile, IsFlowIn, AreNodesIn, Has};
 
 use crate::answer::Answer;
-use crate::built::is_built;
 use config_read::{ConfigFault, default_nodes, read_config};
 use ds_port::Files;
 use ds_value::Name;
 use flow_graph::Flow;
 use flow_outputs::{LoadFault, load};
+use osh_ends::is_built;
 use osh_read::{OshFault, read_flow};
 use std::alloc::Global;
 

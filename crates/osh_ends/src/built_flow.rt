@@ -3,7 +3,7 @@
 ghost use Rattle.std.specs.Prelude.{◌≡◌, ◌&&◌, not};
 ghost use Rattle.std.specs.List.{list_all};
 ghost use Rattle.flow_graph.specs.Charts.{is_seq as is_sequential};
-ghost use Rattle.osh_call.specs.Built.{is_built_kind, is_built_field, has_commas, is_built_op, needs_sort, is_prop, is_built_method, op_in, is_built_link, is_built};
+ghost use Rattle.osh_ends.specs.Built.{is_built_kind, is_built_field, has_commas, is_built_op, needs_sort, is_prop, is_built_method, op_in, is_built_link, is_built};
 
 use ds_schema::Field;
 use ds_value::{Items, Kind};

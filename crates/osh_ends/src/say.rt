@@ -2,8 +2,8 @@
 
 ghost use Rattle.std.specs.Prelude.{◌≡◌, ◌++◌, IfOk, string_bytes, codes};
 ghost use Rattle.std.specs.Fmt.{decimal};
-ghost use Rattle.osh_call.specs.Ends.{bad_flow, bad_config, bad_shape, absent, mismatch, crowded};
-ghost use Rattle.osh_call.specs.Leaves.{line, flow_why_text, config_why_text, shape_why_text};
+ghost use Rattle.osh_ends.specs.Ends.{bad_flow, bad_config, bad_shape, absent, mismatch, crowded};
+ghost use Rattle.osh_ends.specs.Leaves.{line, flow_why_text, config_why_text, shape_why_text};
 
 use config_read::ConfigWhy;
 use ds_value::{Bytes, Name, NoMemory};

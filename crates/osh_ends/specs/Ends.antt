@@ -32,10 +32,10 @@ use Rattle.osh_read.specs.Flows.{flow_of}
 use Rattle.osh_words.specs.declared.command.Command.{Command}
 use Rattle.osh_words.specs.declared.command.Command.TheVariants as command
 use Rattle.osh_words.specs.Spelled.{Spells}
-use Rattle.osh_call.specs.Built.{is_built}
-use Rattle.osh_call.specs.FlowFiles.{IsMeaning, first_missing, form, input_of, fields_of}
-use Rattle.osh_call.specs.Reports.{verdict_report, report, fault_report}
-use Rattle.osh_call.specs.Steps.{Reads, Spelled}
+use Rattle.osh_ends.specs.Built.{is_built}
+use Rattle.osh_ends.specs.FlowFiles.{IsMeaning, first_missing, form, input_of, fields_of}
+use Rattle.osh_ends.specs.Reports.{verdict_report, report, fault_report}
+use Rattle.osh_ends.specs.Steps.{Reads, Spelled}
 
 -- a file's name, and what it holds
 abbrev pub NamedFile : Type 0

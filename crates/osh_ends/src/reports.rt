@@ -1,7 +1,7 @@
 //! What a command prints on out.
 
 ghost use Rattle.std.specs.Prelude.{◌≡◌, ◌++◌, ◌<◌, IfOk, OnOk, string_bytes};
-ghost use Rattle.osh_call.specs.Reports.{count_line, kind_name, digit, hexadecimal, bytes_text, faults_line, least_head, least_line};
+ghost use Rattle.osh_ends.specs.Reports.{count_line, kind_name, digit, hexadecimal, bytes_text, faults_line, least_head, least_line};
 
 use ds_value::{Bytes, NoMemory};
 use op_base::{Fault, FaultKind};

@@ -9,7 +9,7 @@ use Rattle.flow_shape.specs.declared.fault.ShapeWhy.{ShapeWhy}
 use Rattle.flow_shape.specs.declared.fault.ShapeWhy.TheVariants as shape_why
 use Rattle.osh_read.specs.declared.fault.OshWhy.{OshWhy}
 use Rattle.osh_read.specs.declared.fault.OshWhy.TheVariants as flow_why
-use Rattle.osh_call.specs.Ends.{End, NamedFile, usage, unbuilt, bad_flow, bad_config, bad_shape, absent, refused, checked, mismatch, crowded, done, faulty, end_status, ComesTo}
+use Rattle.osh_ends.specs.Ends.{End, NamedFile, usage, unbuilt, bad_flow, bad_config, bad_shape, absent, refused, checked, mismatch, crowded, done, faulty, end_status, ComesTo}
 
 -- one file after another is made
 abbrev pub with_files : FileMap → List NamedFile → FileMap
