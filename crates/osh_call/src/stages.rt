@@ -4,7 +4,7 @@ ghost use Rattle.std.specs.Prelude.{◌≡◌, ◌⊎◌, IsTrue, IfOk, IfErr};
 ghost use Rattle.ds_port.specs.Causes.{HasCause};
 ghost use Rattle.osh_call.specs.Answers.{Stops};
 ghost use Rattle.osh_ends.specs.Ends.{FlowIn, NodesIn};
-ghost use Rattle.osh_call.specs.Stages.{FlowFile, NodesFile, IsFlowIn, AreNodesIn, Has};
+ghost use Rattle.osh_call.specs.Stages.{FlowFile, NodesFile, IsFlowIn, IsRead, AreNodesIn, Has};
 
 use crate::answer::Answer;
 use config_read::{ConfigFault, default_nodes, read_config};
@@ -60,6 +60,7 @@ fn nodes_in(alloc: Global, text: &[u8]) -> Result<u32, Answer>
 
 /// The flow in a file.
 pub fn flow_at<F: Files>(alloc: Global, files: &mut F, name: &Name) -> Result<Flow, Answer>
+    ensures read { IfOk result IsRead }
     ensures found { IsTrue F.tells → IfOk result (λ flow. Has (F.holds files.old) name.now (λ text. IsFlowIn text flow)) }
     ensures stops { IsTrue F.tells → IfErr result (Stops (FlowFile (F.holds files.old) name.now)) }
     ensures same { F.holds files.new ≡ F.holds files.old }
