@@ -43,10 +43,6 @@ Halts Comes answer.Faulty = ⊥
 Halts Comes answer.Device = Unit {0}
 Halts Comes answer.Memory = Unit {0}
 
--- a stage stops the call, whatever would have come behind it
-abbrev pub Stops : {V : Type 0} → ((V → End → Type 0) → End → Type 0) → Answer → Type 0
-Stops {V} Stage answer = (next : V → End → Type 0) → Halts (Stage next) answer
-
 -- a call that comes to such an end was served with this answer: it left what the end leaves, or a device failed, or memory was wanting and nothing is left
 abbrev pub Serves : (End → Type 0) → FileMap → FileMap → Bool → List ℕ → List ℕ → (files_rose out_rose : Type 0) → Answer → Type 0
 Serves Comes old new tells out_old out_new files_rose out_rose a =

@@ -1,6 +1,6 @@
 //! The command `check`.
 
-ghost use Rattle.std.specs.Prelude.{◌≡◌, ◌⊎◌, ◌++◌, IfOk, IsTrue, codes};
+ghost use Rattle.std.specs.Prelude.{◌≡◌, ◌⊎◌, false, IfOk, IsTrue};
 ghost use Rattle.ds_port.specs.Causes.{Rose};
 ghost use Rattle.flow_rules.specs.Verdicts.{IsVerdict};
 ghost use Rattle.osh_ends.specs.Ends.{ChecksFile};

@@ -1,12 +1,10 @@
 //! The shape of a flow and the verdict on it.
 
-ghost use Rattle.std.specs.Prelude.{◌≡◌, [], IsTrue, IfOk, IfErr};
+ghost use Rattle.std.specs.Prelude.{◌≡◌, [], false, IsTrue, IfOk, IfErr};
 ghost use Rattle.flow_shape.specs.Refusals.{IsShapeOf};
 ghost use Rattle.flow_rules.specs.Verdicts.{IsVerdict};
-ghost use Rattle.osh_ends.specs.Ends.{Shapes};
 ghost use Rattle.ds_port.specs.Causes.{HasCause};
-ghost use Rattle.osh_call.specs.Answers.{Stops};
-ghost use Rattle.osh_call.specs.Stages.{IsRead, IsBuiltShape, IsShapeIn, ShapeFile};
+ghost use Rattle.osh_call.specs.Stages.{IsRead, IsBuiltShape, IsShapeIn, ShapeStops, ShapeFileStops};
 
 use crate::answer::Answer;
 use crate::stages::flow_at;
@@ -22,8 +20,7 @@ use std::alloc::Global;
 pub fn shaped(alloc: Global, flow: Flow) -> Result<Shaped, Answer>
     requires { IsRead flow }
     ensures shape { IfOk result (λ c. IsShapeOf flow [] c) }
-    ensures stops { IfErr result (Stops (Shapes flow)) }
-    ensures device { result ≡ Err Answer.Device → ⊥ }
+    ensures stops { IfErr result (ShapeStops flow) }
 {
     osh_sound::flows_can_be_shaped();
     match shape(alloc, flow, &[]) {
@@ -37,7 +34,7 @@ pub fn shaped(alloc: Global, flow: Flow) -> Result<Shaped, Answer>
 pub fn shape_at<F: Files>(alloc: Global, files: &mut F, name: &Name) -> Result<Shaped, Answer>
     ensures built { IfOk result IsBuiltShape }
     ensures found { IsTrue F.tells → IfOk result (IsShapeIn (F.holds files.old) name.now) }
-    ensures stops { IsTrue F.tells → IfErr result (Stops (ShapeFile (F.holds files.old) name.now)) }
+    ensures stops { IsTrue F.tells → IfErr result (ShapeFileStops (F.holds files.old) name.now) }
     ensures same { F.holds files.new ≡ F.holds files.old }
     ensures cause { HasCause (F.faults files.old) (F.faults files.new) (result ≡ Err Answer.Device) }
 {

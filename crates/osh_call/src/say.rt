@@ -1,8 +1,8 @@
 //! The line of an answer on err, and its status.
 
-ghost use Rattle.std.specs.Prelude.{◌≡◌, ◌⊎◌, IsTrue, IfOk, string_bytes};
+ghost use Rattle.std.specs.Prelude.{◌≡◌, ◌⊎◌, IsTrue, IfOk, IfErr};
 ghost use Rattle.osh_ends.specs.Leaves.{Tells};
-ghost use Rattle.osh_call.specs.Saying.{err_line, answer_status, HasLine, HasPlain, SaidAs};
+ghost use Rattle.osh_call.specs.Saying.{err_line, answer_status, HasLine, HasPlain, IsMade, SaidAs};
 
 use crate::answer::Answer;
 use ds_port::Sink;
@@ -20,7 +20,8 @@ fn tell<E: Sink>(err: &mut E, line: &[u8])
 
 /// The line of an answer that is made of numbers or a name.
 fn made_line(alloc: Global, answer: &Answer) -> Result<Option<Bytes>, NoMemory>
-    ensures { IfOk result (λ line. HasLine line answer.now) }
+    ensures line { IfOk result (λ line. HasLine line answer.now) }
+    ensures made { IfErr result (λ _. IsMade answer.now) }
 {
     let mut line = Bytes::new(alloc);
     match answer {
