@@ -1,0 +1,60 @@
+//! The texts that a command needs.
+
+ghost use Rattle.std.specs.Prelude.{◌≡◌, ◌⊎◌, IsTrue, IfOk, IfErr};
+ghost use Rattle.ds_port.specs.Causes.{HasCause};
+ghost use Rattle.osh_call.specs.Stages.{IsFlowIn, IsRead, Has, FlowInStops, FileStops};
+
+use crate::answer::Answer;
+use ds_port::Files;
+use ds_value::Name;
+use flow_graph::Flow;
+use flow_outputs::{LoadFault, load};
+use osh_ends::is_built;
+use osh_read::{OshFault, read_flow};
+use std::alloc::Global;
+
+/// The answer that a file isn't there.
+pub fn absent(name: &Name) -> Answer
+    ensures { (result ≡ Answer.Absent name.now) ⊎ (result ≡ Answer.Memory) }
+{
+    match name.copied() {
+        Ok(name) => Answer::Absent(name),
+        Err(_) => Answer::Memory,
+    }
+}
+
+/// The flow that a text spells.
+fn flow_in(alloc: Global, text: &[u8]) -> Result<Flow, Answer>
+    ensures flow { IfOk result (IsFlowIn text.now) }
+    ensures stops { IfErr result (FlowInStops text.now) }
+{
+    match read_flow(alloc, text) {
+        Ok(flow) => {
+            if is_built(&flow) {
+                Ok(flow)
+            } else {
+                Err(Answer::Unbuilt)
+            }
+        }
+        Err(OshFault::Bad { at, why }) => Err(Answer::BadFlow { at, why }),
+        Err(OshFault::Memory) => Err(Answer::Memory),
+    }
+}
+
+/// The flow in a file.
+pub fn flow_at<F: Files>(alloc: Global, files: &mut F, name: &Name) -> Result<Flow, Answer>
+    ensures read { IfOk result IsRead }
+    ensures found { IsTrue F.tells → IfOk result (λ flow. Has (F.holds files.old) name.now (λ text. IsFlowIn text flow)) }
+    ensures stops { IsTrue F.tells → IfErr result (FileStops (F.holds files.old) name.now FlowInStops) }
+    ensures same { F.holds files.new ≡ F.holds files.old }
+    ensures cause { HasCause (F.faults files.old) (F.faults files.new) (result ≡ Err Answer.Device) }
+{
+    match load(alloc, files, name) {
+        Ok(text) => flow_in(alloc, text.as_slice()),
+        Err(LoadFault::NotFound) => Err(absent(name)),
+        Err(LoadFault::Failed) => Err(Answer::Device),
+        // What is too long to be read whole is too long for memory.
+        Err(LoadFault::Refused) => Err(Answer::Memory),
+        Err(LoadFault::TooLong) => Err(Answer::Memory),
+    }
+}

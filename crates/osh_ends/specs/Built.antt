@@ -1,0 +1,68 @@
+-- The flows that are built: which operators, columns, methods and flags a flow may have today.
+use Rattle.std.specs.Prelude.{ℕ, Bool, true, false, not, ◌&&◌, ◌==◌, List, [], ◌∷◌, get_or, Option, Some, None}
+use Rattle.std.specs.List.{list_all}
+use Rattle.std.specs.Option.{is_none}
+use Rattle.ds_value.specs.declared.kind.Kind.{Kind}
+use Rattle.ds_value.specs.declared.kind.Kind.TheVariants as data_kind
+use Rattle.ds_schema.specs.declared.schema.Field.{Field}
+use Rattle.flow_graph.specs.Charts.{no_op, is_seq}
+use Rattle.flow_graph.specs.declared.flow.Flag.{Flag}
+use Rattle.flow_graph.specs.declared.flow.Flag.TheVariants as flag
+use Rattle.flow_graph.specs.declared.flow.Flow.{Flow}
+use Rattle.flow_graph.specs.declared.flow.LinkSpec.{LinkSpec}
+use Rattle.flow_graph.specs.declared.flow.Method.{Method}
+use Rattle.flow_graph.specs.declared.flow.Method.TheVariants as method
+use Rattle.flow_graph.specs.declared.flow.OpSpec.{OpSpec}
+use Rattle.flow_graph.specs.declared.op_kind.OpKind.{OpKind}
+use Rattle.flow_graph.specs.declared.op_kind.OpKind.TheVariants as kind
+
+-- int32 and string[max=n]
+abbrev pub is_built_kind : Kind → Bool
+is_built_kind (data_kind.Int bits) = bits == 32
+is_built_kind (data_kind.UInt bits) = false
+is_built_kind (data_kind.Dec p s) = false
+is_built_kind (data_kind.Text max fixed) = not fixed
+is_built_kind data_kind.Date = false
+
+abbrev pub is_built_field : Field → Bool
+is_built_field f = not f.nullable && is_built_kind f.kind
+
+-- fields with commas between them
+abbrev pub has_commas : ℕ → Option (List ℕ) → Bool
+has_commas delim fixed = (delim == 44) && is_none fixed
+
+abbrev pub is_built_op : OpKind → Bool
+is_built_op (kind.Import file schema delim fixed reject) = list_all is_built_field schema && (has_commas delim fixed && not reject)
+is_built_op (kind.Export file delim fixed) = has_commas delim fixed
+is_built_op kind.Copy = true
+is_built_op (kind.Tsort key) = true
+is_built_op (kind.Remdup key last) = true
+is_built_op k = false
+
+-- whether an operator that is built needs its input sorted
+abbrev pub needs_sort : OpKind → Bool
+needs_sort (kind.Remdup (k ∷ key) last) = true
+needs_sort k = false
+
+abbrev pub is_prop : Flag → Bool
+is_prop flag.Set = false
+is_prop flag.Clear = false
+is_prop flag.Prop = true
+
+-- by whether the producer and the consumer are sequential, and whether the consumer needs a sort; a method may be left out between sequential ends where none is needed
+abbrev pub is_built_method : Bool → Bool → Bool → Method → Bool
+is_built_method from to sorts method.Auto = from && (to && not sorts)
+is_built_method from to sorts method.Same = true
+is_built_method from to sorts method.RoundRobin = not to
+is_built_method from to sorts (method.Hash names) = true
+is_built_method from to sorts method.Any = true
+is_built_method from to sorts m = false
+
+abbrev pub op_in : List OpSpec → ℕ → OpSpec
+op_in ops o = get_or ops o no_op
+
+abbrev pub is_built_link : List OpSpec → LinkSpec → Bool
+is_built_link ops l = is_prop l.flag && is_built_method (is_seq (op_in ops l.from).mark) (is_seq (op_in ops l.to).mark) (needs_sort (op_in ops l.to).kind) l.method
+
+abbrev pub is_built : Flow → Bool
+is_built flow = (not flow.nopart && not flow.nosort) && (list_all (λ (o : OpSpec). is_built_op o.kind) flow.ops && list_all (is_built_link flow.ops) flow.links)

@@ -1,0 +1,28 @@
+-- What holds of each flow that is read.
+use Rattle.std.specs.Prelude.{◌≡◌, ℕ, List, Ok}
+use Rattle.std.specs.List.{AllByRecursion}
+use Rattle.flow_graph.specs.declared.flow.Mark.{Mark}
+use Rattle.flow_graph.specs.declared.flow.Mark.TheVariants as mark
+use Rattle.flow_graph.specs.declared.flow.OpSpec.{OpSpec}
+use Rattle.flow_graph.specs.declared.flow.Flow.{Flow}
+use Rattle.flow_graph.specs.declared.op_kind.OpKind.{OpKind}
+use Rattle.flow_graph.specs.declared.op_kind.OpKind.TheVariants as kind
+use Rattle.flow_shape.specs.Spelled.{IsJoined}
+use Rattle.osh_read.specs.Flows.{flow_of}
+
+-- files are read and written on one partition, a data set is read on its own, and no other operator runs as a data set is read
+abbrev pub MarkFits : OpKind → Mark → Type 0
+MarkFits (kind.Import file schema delim fixed reject) m = m ≡ mark.Seq
+MarkFits (kind.Export file delim fixed) m = m ≡ mark.Seq
+MarkFits (kind.Dsread ds) m = m ≡ mark.Stored
+MarkFits other m = m ≡ mark.Stored → ⊥
+
+abbrev pub KeepsMarks : Flow → Type 0
+KeepsMarks flow = AllByRecursion (λ (o : OpSpec). MarkFits o.kind o.mark) flow.ops
+
+-- what is read can be shaped
+abbrev pub ReadIsJoined : Type 0
+ReadIsJoined = (bytes : List ℕ) (flow : Flow) → flow_of bytes ≡ Ok flow → IsJoined flow
+
+abbrev pub ReadKeepsMarks : Type 0
+ReadKeepsMarks = (bytes : List ℕ) (flow : Flow) → flow_of bytes ≡ Ok flow → KeepsMarks flow
