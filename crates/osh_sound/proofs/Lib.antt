@@ -6,3 +6,4 @@ pub mod FlowsHold
 pub mod KindsKeep
 pub mod JoinsKeep
 pub mod FlowsKeep
+pub mod WorkedTexts

@@ -1,3 +1,4 @@
 pub mod Grammar
 pub mod GrammarLaws
 pub mod Sound
+pub mod WorkedTexts

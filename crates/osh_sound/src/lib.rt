@@ -2,8 +2,12 @@
 //! function does nothing, and its contract is the law.
 #![tactic(auto)]
 
+mod worked;
+
 ghost use Rattle.osh_sound.specs.GrammarLaws.{ReadIsSpelled};
 ghost use Rattle.osh_sound.specs.Sound.{ReadIsJoined, ReadKeepsMarks};
+
+pub use worked::{joined_texts, refused_texts};
 
 /// The flow that is read of a text is one that the text spells.
 pub fn flows_are_spelled()
