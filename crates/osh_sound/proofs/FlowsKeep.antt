@@ -61,7 +61,7 @@ Fits s = OpKeeps s × StageFits s
 
 stage_fits : (w : WrittenStage) (ts rest : List Lexeme) → stage_phrase w ts rest → IsStage w → JointFits w.stage.joined → Fits w.stage
 stage_fits w ts rest h s j =
-    (operator_keeps w.op w.options w.stage.kind w.stage.mark h.0 h.2.0 h.2.0 h.2.2.0 h.2.1 h.2.2.1 s.says, (j, redirects_fit w.stage.redirects h.2.2.0 rest h.2.2.2))
+    (let behind = h.2.2 in (operator_keeps w.op w.options w.stage.kind w.stage.mark h.2.0 behind.0 behind.0 behind.2.0 behind.1 behind.2.1 s.says, (j, redirects_fit w.stage.redirects behind.2.0 rest behind.2.2)))
 
 further_fit : (ws : List WrittenStage) (ts rest : List Lexeme) → further_phrase ws ts rest → AreStages ws → AllByRecursion Fits (stages_of ws)
 further_fit [] ts rest h s = tt
