@@ -1,9 +1,7 @@
 -- What is read can be shaped, and keeps its marks.
-use Rattle.std.proofs.Common.{◌≡◌, ◌≤◌, ◌<◌, ◌+◌, inl, inr, ℕ, suc, List, [], ◌∷◌, ◌++◌, length, map, Bool, true, Option, Some, None, refl, sym, ap, ◌∙◌, subst, arith}
+use Rattle.std.proofs.Common.{◌≡◌, ◌≤◌, ◌<◌, inl, inr, suc, List, [], ◌∷◌, length, None, refl, sym, ap, subst}
 use Rattle.std.specs.List.{AllByRecursion}
-use Rattle.ds_lex.specs.declared.token.Mode.TheVariants.{Osh}
-use Rattle.ds_lex.specs.Lexemes.{Lexeme, limited_text}
-use Rattle.ds_lex.specs.Phrases.{◌~◌}
+use Rattle.ds_lex.specs.Lexemes.{Lexeme}
 use Rattle.flow_graph.specs.declared.flow.Method.{Method}
 use Rattle.flow_graph.specs.declared.flow.Method.TheVariants as method
 use Rattle.flow_graph.specs.declared.flow.Flag.{Flag}
@@ -19,7 +17,7 @@ use Rattle.osh_read.specs.declared.stage.Joint.{Joint}
 use Rattle.osh_read.specs.declared.stage.Joint.TheVariants as joint
 use Rattle.osh_read.specs.declared.stage.Stage.{Stage}
 use Rattle.osh_read.specs.declared.stage.Directives.{Directives}
-use Rattle.osh_read.specs.Joining.{op_of, ops, links, unjoined}
+use Rattle.osh_read.specs.Joining.{ops, links, unjoined}
 use Rattle.osh_read.specs.Flows.{made}
 use Rattle.osh_sound.specs.Grammar.{method_phrase, redirect_phrase, redirects_phrase, joint_phrase, WrittenStage, stage_phrase, IsStage, AreStages, stages_of, further_phrase, stages_phrase, SpellsFlow}
 use Rattle.osh_sound.specs.Sound.{MarkFits, KeepsMarks}

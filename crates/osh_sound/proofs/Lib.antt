@@ -7,3 +7,9 @@ pub mod KindsKeep
 pub mod JoinsKeep
 pub mod FlowsKeep
 pub mod WorkedTexts
+pub mod TokensSound
+pub mod PhrasesPass
+pub mod MethodsRead
+pub mod OptionsRead
+pub mod StagesRead
+pub mod FlowsRead

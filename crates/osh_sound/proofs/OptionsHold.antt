@@ -1,5 +1,5 @@
 -- What is read as an operator with its options is one.
-use Rattle.std.proofs.Common.{◌≡◌, ◌⊎◌, inl, inr, ℕ, zero, suc, List, [], ◌∷◌, ◌++◌, length, map, drop, Bool, true, false, Result, Ok, Err, Option, Some, None, refl, sym, ap, ◌∙◌, subst, append_assoc}
+use Rattle.std.proofs.Common.{◌≡◌, ◌⊎◌, inl, inr, ℕ, zero, suc, List, [], ◌∷◌, ◌++◌, length, map, Bool, true, false, Result, Ok, Err, Option, Some, None, refl, sym, ap, ◌∙◌, subst, append_assoc}
 use Rattle.std.specs.Prelude.{if◌then◌else◌, nat_le, not, ◌&&◌}
 use Rattle.std.proofs.lemmas.List.{append-nil}
 use Rattle.ds_lex.specs.declared.token.Sort.{Sort}
@@ -7,8 +7,8 @@ use Rattle.ds_lex.specs.declared.token.Sort.TheVariants as sort
 use Rattle.ds_lex.specs.declared.refusal.Refusal.{Refusal}
 use Rattle.ds_lex.specs.declared.refusal.Refusal.TheVariants as refusal
 use Rattle.ds_lex.specs.Lexemes.{Lexeme}
-use Rattle.ds_lex.specs.Reading.{◌>>=◌, refuse, sort_at, first_of}
-use Rattle.ds_lex.specs.Phrases.{Phrase, token, nothing, ◌~◌}
+use Rattle.ds_lex.specs.Reading.{◌>>=◌, sort_at, first_of}
+use Rattle.ds_lex.specs.Phrases.{token, ◌~◌}
 use Rattle.ds_lex.proofs.Readers.{bind_ok}
 use Rattle.ds_schema.proofs.ListReaders.{ok_parts}
 use Rattle.flow_graph.specs.declared.op_kind.OpKind.{OpKind}
@@ -26,8 +26,8 @@ use Rattle.osh_value.specs.Kinds.{kind_of}
 use Rattle.osh_read.specs.declared.fault.OshWhy.{OshWhy}
 use Rattle.osh_read.specs.declared.fault.OshWhy.TheVariants as why
 use Rattle.osh_read.specs.Reading.{Read, repeated, append, if_comes}
-use Rattle.osh_read.specs.Options.{is_value, is_opt, is_flag, known, lacks_value, clashes, given, value_or, taken, taken_at, setting_at, opt_at, next_setting_at, settings_at, is_missing, lacks_option, ends_ahead, operator_of, complete, head_at}
-use Rattle.osh_sound.specs.Grammar.{WrittenOption, setting_of, said, value_phrase, option_phrase, options_phrase, StandTogether, full}
+use Rattle.osh_read.specs.Options.{is_value, is_opt, is_flag, known, lacks_value, clashes, given, taken, taken_at, setting_at, opt_at, next_setting_at, settings_at, is_missing, lacks_option, ends_ahead, operator_of, complete, head_at}
+use Rattle.osh_sound.specs.Grammar.{WrittenOption, setting_of, value_phrase, options_phrase, StandTogether, full}
 use Rattle.osh_sound.proofs.Fronts.{pair_parts, sort_taken}
 
 -- a test that was passed, and what follows it

@@ -1,21 +1,18 @@
 -- What is read as stages are stages.
-use Rattle.std.proofs.Common.{◌≡◌, ◌≤◌, ◌<◌, ◌+◌, ◌⊎◌, inl, inr, ℕ, zero, suc, List, [], ◌∷◌, ◌++◌, length, map, Bool, true, false, Result, Ok, Err, Option, Some, None, refl, sym, ap, ◌∙◌, subst, append_assoc, arith, length-append}
+use Rattle.std.proofs.Common.{◌≡◌, ◌≤◌, ◌<◌, ◌+◌, inl, inr, ℕ, zero, suc, List, [], ◌∷◌, ◌++◌, length, Bool, true, false, Ok, Option, Some, None, refl, sym, ap, ◌∙◌, subst, append_assoc, arith, length-append}
 use Rattle.std.specs.Prelude.{if◌then◌else◌, nat_le, ◌==◌, codes}
 use Rattle.std.specs.Str.{bytes_eq}
 use Rattle.std.proofs.lemmas.List.{append-nil}
 use Rattle.std.proofs.lemmas.Bool.{eqb-true}
 use Rattle.ds_lex.specs.declared.token.Sort.TheVariants as sort
-use Rattle.ds_lex.specs.declared.refusal.Refusal.{Refusal}
-use Rattle.ds_lex.specs.declared.refusal.Refusal.TheVariants as refusal
 use Rattle.ds_lex.specs.Lexemes.{Lexeme}
-use Rattle.ds_lex.specs.Reading.{◌>>=◌, refuse, token_at, sort_at, expect_at, accept_at, finish_at}
-use Rattle.ds_lex.specs.Phrases.{Phrase, word, token, nothing, nothing_where, ◌~◌, ◌<|>◌}
+use Rattle.ds_lex.specs.Reading.{refuse, token_at, sort_at, expect_at, accept_at, finish_at}
+use Rattle.ds_lex.specs.Phrases.{word, token, nothing, ◌~◌, ◌<|>◌}
 use Rattle.ds_lex.proofs.Readers.{bind_ok, same_bytes}
 use Rattle.ds_schema.proofs.ListReaders.{ok_parts, accepted, passed}
 use Rattle.flow_graph.specs.declared.flow.Mark.{Mark}
 use Rattle.flow_graph.specs.declared.flow.Mark.TheVariants as mark
 use Rattle.osh_table.specs.declared.operator.OpName.{OpName}
-use Rattle.osh_table.specs.Words.{operator_named}
 use Rattle.osh_read.specs.declared.fault.OshWhy.{OshWhy}
 use Rattle.osh_read.specs.declared.fault.OshWhy.TheVariants as why
 use Rattle.osh_read.specs.declared.stage.Redirect.{Redirect}
@@ -31,10 +28,10 @@ use Rattle.osh_read.specs.Methods.{method_at}
 use Rattle.osh_read.specs.Options.{head_at}
 use Rattle.osh_read.specs.Stages.{plain_mark, bears, mark_named, mark_of, marked_at, mark_at, input_at, output_at, maybe_output_at, redirect_at, redirects_at, stage_at, over_at, piped_at, apart_at, ended_at, behind_stage_at, joint_at, stages_at, directed_at, nosort_at, directive_at, directed}
 use Rattle.std.proofs.lemmas.Bool.{leb-false}
-use Rattle.osh_sound.specs.Grammar.{method_phrase, mark_word, mark_phrase, sign, redirect_phrase, redirects_phrase, options_phrase, WrittenStage, stage_phrase, IsStage, joint_phrase, further_phrase, AreStages, stages_of, directive_word, directives_phrase, all_directed}
-use Rattle.osh_sound.proofs.Fronts.{pair_parts, one_of, sort_taken, token_taken, expect_taken, sign_came, sign_missed}
+use Rattle.osh_sound.specs.Grammar.{method_phrase, mark_word, mark_phrase, redirect_phrase, redirects_phrase, WrittenStage, stage_phrase, IsStage, joint_phrase, further_phrase, AreStages, stages_of, directive_word, directives_phrase, all_directed}
+use Rattle.osh_sound.proofs.Fronts.{one_of, sort_taken, token_taken, expect_taken, sign_came, sign_missed}
 use Rattle.osh_sound.proofs.MethodsHold.{method_holds}
-use Rattle.osh_sound.proofs.OptionsHold.{IsHead, head_holds}
+use Rattle.osh_sound.proofs.OptionsHold.{head_holds}
 
 -- ---- marks
 

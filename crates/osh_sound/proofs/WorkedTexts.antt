@@ -1,11 +1,10 @@
 -- Texts with what is read of them, by computing.
-use Rattle.std.proofs.Common.{◌≡◌, ℕ, List, [], ◌∷◌, Result, Ok, Err, true, false, refl, sym, ap, ◌∙◌, arith}
+use Rattle.std.proofs.Common.{◌≡◌, ℕ, [], ◌∷◌, Result, Ok, Err, true, false, refl, sym, ap, ◌∙◌}
 use Rattle.std.specs.Prelude.{codes, ◌==◌}
 use Rattle.ds_lex.specs.Lexemes.{limited_text}
 use Rattle.ds_lex.specs.Reading.{token_at, expect_at, sort_at, accept_at, finish_at}
 use Rattle.ds_schema.specs.ColumnReading.{name_at as word_at, new_name_at as fresh_at, key_at, further_at, names_at, keys_at}
 use Rattle.flow_graph.specs.declared.flow.Flow.{Flow}
-use Rattle.flow_graph.specs.declared.flow.LinkSpec.{LinkSpec}
 use Rattle.flow_graph.specs.declared.flow.Method.TheVariants as method
 use Rattle.flow_graph.specs.declared.flow.Flag.TheVariants as flag
 use Rattle.osh_value.specs.Values.{value_of, whole_at}

@@ -6,12 +6,12 @@
 --   redirect  = "<" [ method ] WORD | ">" WORD
 --   method    = "[" kind [ keys ] [ flag ] "]" | "[" flag "]"
 --   flag      = "set" | "clear" | "prop"
-use Rattle.std.specs.Prelude.{◌≡◌, ◌≤◌, ℕ, List, [], ◌∷◌, ◌++◌, length, map, Option, Some, None, Bool, true, false, codes}
+use Rattle.std.specs.Prelude.{◌≡◌, ◌≤◌, ℕ, List, [], ◌∷◌, ◌++◌, length, map, Some, None, true, false, codes}
 use Rattle.ds_value.specs.Names.{IsName}
 use Rattle.ds_lex.specs.declared.token.Mode.TheVariants.{Osh}
 use Rattle.ds_lex.specs.declared.token.Sort.TheVariants as sort
 use Rattle.ds_lex.specs.declared.lexeme.End.TheVariants as ends
-use Rattle.ds_lex.specs.Lexemes.{Lexeme, LimitedText, limited_text}
+use Rattle.ds_lex.specs.Lexemes.{Lexeme, limited_text}
 use Rattle.ds_lex.specs.Phrases.{Phrase, word, token, nothing, nothing_where, ◌~◌, ◌<|>◌}
 use Rattle.ds_schema.specs.ColumnGrammar.{names_form, keys_form}
 use Rattle.flow_graph.specs.declared.flow.Mark.{Mark}

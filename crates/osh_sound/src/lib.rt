@@ -4,14 +4,17 @@
 
 mod worked;
 
-ghost use Rattle.osh_sound.specs.GrammarLaws.{ReadIsSpelled};
+ghost use Rattle.osh_sound.specs.GrammarLaws.{OneIsSpelled, ReadIsSpelled, RefusedIsNone, SpelledIsRead};
 ghost use Rattle.osh_sound.specs.Sound.{ReadIsJoined, ReadKeepsMarks};
 
 pub use worked::{joined_texts, refused_texts};
 
-/// The flow that is read of a text is one that the text spells.
+/// A text is read as a flow where it spells it, and only there.
 pub fn flows_are_spelled()
-    ensures { ReadIsSpelled }
+    ensures read { ReadIsSpelled }
+    ensures spelled { SpelledIsRead }
+    ensures refused { RefusedIsNone }
+    ensures one { OneIsSpelled }
 {}
 
 /// The flow that is read of a text can be shaped, and its operators run as they can.
