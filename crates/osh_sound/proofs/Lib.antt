@@ -13,3 +13,4 @@ pub mod MethodsRead
 pub mod OptionsRead
 pub mod StagesRead
 pub mod FlowsRead
+pub mod ValuesBack

@@ -2,3 +2,4 @@ pub mod Grammar
 pub mod GrammarLaws
 pub mod Sound
 pub mod WorkedTexts
+pub mod ValueLaws

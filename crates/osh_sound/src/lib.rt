@@ -5,6 +5,7 @@
 mod worked;
 
 ghost use Rattle.osh_sound.specs.GrammarLaws.{OneIsSpelled, ReadIsSpelled, RefusedIsNone, SpelledIsRead};
+ghost use Rattle.osh_sound.specs.ValueLaws.{ValuesReadBack};
 ghost use Rattle.osh_sound.specs.Sound.{ReadIsJoined, ReadKeepsMarks};
 
 pub use worked::{joined_texts, refused_texts};
@@ -21,4 +22,9 @@ pub fn flows_are_spelled()
 pub fn flows_can_be_shaped()
     ensures joined { ReadIsJoined }
     ensures marks { ReadKeepsMarks }
+{}
+
+/// The printed value of an option is read as the value.
+pub fn values_read_back()
+    ensures { ValuesReadBack }
 {}
