@@ -14,3 +14,4 @@ pub mod OptionsRead
 pub mod StagesRead
 pub mod FlowsRead
 pub mod ValuesBack
+pub mod OptionsPrinted

@@ -3,3 +3,4 @@ pub mod GrammarLaws
 pub mod Sound
 pub mod WorkedTexts
 pub mod ValueLaws
+pub mod OptionLaws

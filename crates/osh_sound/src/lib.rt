@@ -6,6 +6,7 @@ mod worked;
 
 ghost use Rattle.osh_sound.specs.GrammarLaws.{OneIsSpelled, ReadIsSpelled, RefusedIsNone, SpelledIsRead};
 ghost use Rattle.osh_sound.specs.ValueLaws.{ValuesReadBack};
+ghost use Rattle.osh_sound.specs.OptionLaws.{OptionsArePrinted};
 ghost use Rattle.osh_sound.specs.Sound.{ReadIsJoined, ReadKeepsMarks};
 
 pub use worked::{joined_texts, refused_texts};
@@ -27,4 +28,9 @@ pub fn flows_can_be_shaped()
 /// The printed value of an option is read as the value.
 pub fn values_read_back()
     ensures { ValuesReadBack }
+{}
+
+/// Options are printed as the tokens that spell them.
+pub fn options_are_printed()
+    ensures { OptionsArePrinted }
 {}
