@@ -15,3 +15,4 @@ pub mod StagesRead
 pub mod FlowsRead
 pub mod ValuesBack
 pub mod OptionsPrinted
+pub mod OperatorsWritten

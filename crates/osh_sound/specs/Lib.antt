@@ -4,3 +4,4 @@ pub mod Sound
 pub mod WorkedTexts
 pub mod ValueLaws
 pub mod OptionLaws
+pub mod OperatorLaws

@@ -6,6 +6,7 @@ mod worked;
 
 ghost use Rattle.osh_sound.specs.GrammarLaws.{OneIsSpelled, ReadIsSpelled, RefusedIsNone, SpelledIsRead};
 ghost use Rattle.osh_sound.specs.ValueLaws.{ValuesReadBack};
+ghost use Rattle.osh_sound.specs.OperatorLaws.{WrittenIsPrinted, WrittenSays};
 ghost use Rattle.osh_sound.specs.OptionLaws.{OptionsArePrinted};
 ghost use Rattle.osh_sound.specs.Sound.{ReadIsJoined, ReadKeepsMarks};
 
@@ -33,4 +34,10 @@ pub fn values_read_back()
 /// Options are printed as the tokens that spell them.
 pub fn options_are_printed()
     ensures { OptionsArePrinted }
+{}
+
+/// The options that are printed of an operator say it.
+pub fn operators_are_written()
+    ensures says { WrittenSays }
+    ensures printed { WrittenIsPrinted }
 {}
