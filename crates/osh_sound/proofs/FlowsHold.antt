@@ -1,12 +1,11 @@
 -- What is read as a flow is spelled.
-use Rattle.std.proofs.Common.{◌≡◌, ◌≤◌, ◌+◌, ℕ, suc, List, [], ◌∷◌, ◌++◌, length, take, Bool, true, false, Result, Ok, Err, Option, Some, None, refl, sym, ap, ◌∙◌, subst, arith}
+use Rattle.std.proofs.Common.{◌≡◌, ℕ, List, [], ◌∷◌, length, take, Bool, true, false, Result, Ok, Err, Option, Some, None, refl, sym, ap, ◌∙◌, subst, arith}
 use Rattle.std.specs.Prelude.{nat_lt, if◌then◌else◌}
 use Rattle.ds_lex.specs.declared.token.Mode.TheVariants.{Osh}
 use Rattle.ds_lex.specs.declared.lexeme.End.{End}
 use Rattle.ds_lex.specs.declared.lexeme.End.TheVariants as ends
 use Rattle.ds_lex.specs.declared.refusal.Refusal.{Refusal}
 use Rattle.ds_lex.specs.Lexemes.{Lexeme, end_of, limited_text, lexed_text}
-use Rattle.ds_lex.specs.Reading.{◌>>=◌}
 use Rattle.ds_lex.specs.Phrases.{◌~◌}
 use Rattle.ds_lex.proofs.Readers.{bind_ok}
 use Rattle.flow_graph.specs.declared.flow.Flow.{Flow}
@@ -16,9 +15,9 @@ use Rattle.osh_read.specs.declared.stage.Stage.{Stage}
 use Rattle.osh_read.specs.declared.stage.Directives.{Directives}
 use Rattle.osh_read.specs.Stages.{directives_at, stages_at, no_directives}
 use Rattle.osh_read.specs.Joining.{unjoined}
-use Rattle.osh_read.specs.Flows.{made, joined, flow_at, is_cut_off, settled, flow_in, flow_of}
-use Rattle.osh_sound.specs.Grammar.{directives_phrase, stage_phrase, further_phrase, stages_phrase, stages_of, all_directed, SpellsFlow, SpellsText}
-use Rattle.osh_sound.proofs.StagesHold.{AreRead, stages_hold, AreDirected, directives_hold}
+use Rattle.osh_read.specs.Flows.{made, joined, flow_at, is_cut_off, settled, flow_of}
+use Rattle.osh_sound.specs.Grammar.{stage_phrase, further_phrase, all_directed, SpellsFlow, SpellsText}
+use Rattle.osh_sound.proofs.StagesHold.{stages_hold, directives_hold}
 
 joined_by : (d : Directives) (stages : List Stage) (flow : Flow) (o : Option ℕ) → joined d stages o ≡ Ok flow → (o ≡ None) × (flow ≡ made d stages)
 joined_by d stages flow (Some at) h = absurd cc

@@ -1,9 +1,7 @@
 -- What is read can be shaped, and keeps its marks.
-use Rattle.std.proofs.Common.{◌≡◌, ◌≤◌, ◌<◌, ◌+◌, inl, inr, ℕ, suc, List, [], ◌∷◌, ◌++◌, length, map, Bool, true, Option, Some, None, refl, sym, ap, ◌∙◌, subst, arith}
+use Rattle.std.proofs.Common.{◌≡◌, ◌≤◌, ◌<◌, inl, inr, suc, List, [], ◌∷◌, length, None, refl, sym, ap, subst}
 use Rattle.std.specs.List.{AllByRecursion}
-use Rattle.ds_lex.specs.declared.token.Mode.TheVariants.{Osh}
-use Rattle.ds_lex.specs.Lexemes.{Lexeme, limited_text}
-use Rattle.ds_lex.specs.Phrases.{◌~◌}
+use Rattle.ds_lex.specs.Lexemes.{Lexeme}
 use Rattle.flow_graph.specs.declared.flow.Method.{Method}
 use Rattle.flow_graph.specs.declared.flow.Method.TheVariants as method
 use Rattle.flow_graph.specs.declared.flow.Flag.{Flag}
@@ -19,7 +17,7 @@ use Rattle.osh_read.specs.declared.stage.Joint.{Joint}
 use Rattle.osh_read.specs.declared.stage.Joint.TheVariants as joint
 use Rattle.osh_read.specs.declared.stage.Stage.{Stage}
 use Rattle.osh_read.specs.declared.stage.Directives.{Directives}
-use Rattle.osh_read.specs.Joining.{op_of, ops, links, unjoined}
+use Rattle.osh_read.specs.Joining.{ops, links, unjoined}
 use Rattle.osh_read.specs.Flows.{made}
 use Rattle.osh_sound.specs.Grammar.{method_phrase, redirect_phrase, redirects_phrase, joint_phrase, WrittenStage, stage_phrase, IsStage, AreStages, stages_of, further_phrase, stages_phrase, SpellsFlow}
 use Rattle.osh_sound.specs.Sound.{MarkFits, KeepsMarks}
@@ -61,7 +59,7 @@ Fits s = OpKeeps s × StageFits s
 
 stage_fits : (w : WrittenStage) (ts rest : List Lexeme) → stage_phrase w ts rest → IsStage w → JointFits w.stage.joined → Fits w.stage
 stage_fits w ts rest h s j =
-    (operator_keeps w.op w.options w.stage.kind w.stage.mark h.0 h.2.0 h.2.0 h.2.2.0 h.2.1 h.2.2.1 s.says, (j, redirects_fit w.stage.redirects h.2.2.0 rest h.2.2.2))
+    (let behind = h.2.2 in (operator_keeps w.op w.options w.stage.kind w.stage.mark h.2.0 behind.0 behind.0 behind.2.0 behind.1 behind.2.1 s.says, (j, redirects_fit w.stage.redirects behind.2.0 rest behind.2.2)))
 
 further_fit : (ws : List WrittenStage) (ts rest : List Lexeme) → further_phrase ws ts rest → AreStages ws → AllByRecursion Fits (stages_of ws)
 further_fit [] ts rest h s = tt

@@ -1,6 +1,6 @@
 -- The links of stages: they run between them, and those into one stand in the order of its ports.
-use Rattle.std.proofs.Common.{◌≡◌, ◌≢◌, ◌≤◌, ◌<◌, ◌+◌, ◌-◌, inl, inr, ℕ, zero, suc, List, [], ◌∷◌, ◌++◌, length, map, filter, cond, get_or, Bool, true, false, Option, Some, None, refl, sym, ap, ◌∙◌, subst, append_assoc, arith, length-append, eq-eqb}
-use Rattle.std.specs.Prelude.{if◌then◌else◌, flat_map, ◌==◌, ◌&&◌}
+use Rattle.std.proofs.Common.{◌≡◌, ◌≢◌, ◌≤◌, ◌<◌, ◌+◌, ℕ, zero, suc, List, [], ◌∷◌, ◌++◌, length, filter, cond, get_or, Bool, true, false, Option, Some, None, refl, sym, ap, ◌∙◌, subst, append_assoc, arith, length-append, eq-eqb}
+use Rattle.std.specs.Prelude.{if◌then◌else◌, ◌==◌}
 use Rattle.std.specs.List.{AllByRecursion}
 use Rattle.std.specs.Str.{bytes_eq}
 use Rattle.std.specs.Cmp.{first_so}
@@ -10,7 +10,7 @@ use Rattle.std.proofs.lemmas.List.Elements.{filter-append}
 use Rattle.op_base.proofs.All.{all_append, all_map}
 use Rattle.flow_graph.specs.declared.flow.LinkSpec.{LinkSpec}
 use Rattle.flow_graph.specs.declared.flow.Flow.{Flow}
-use Rattle.flow_graph.specs.Charts.{no_link, link_at, links_into}
+use Rattle.flow_graph.specs.Charts.{no_link, links_into}
 use Rattle.flow_graph.specs.FlowShape.{PortsInOrder}
 use Rattle.flow_shape.specs.Methods.{MethodDiffers}
 use Rattle.flow_shape.specs.Refusals.{chart_of}

@@ -1,14 +1,13 @@
 -- Keys whose names differ, and marks, of what is spelled.
-use Rattle.std.proofs.Common.{◌≡◌, inl, inr, ℕ, List, [], ◌∷◌, ◌++◌, map, Bool, true, false, Result, Ok, Err, Option, Some, None, refl, sym, ap, ◌∙◌, subst}
-use Rattle.std.specs.Prelude.{if◌then◌else◌, nat_le, ◌==◌, ◌||◌, codes}
+use Rattle.std.proofs.Common.{◌≡◌, inl, inr, ℕ, List, [], ◌∷◌, map, Bool, true, false, Result, Ok, Err, Option, Some, None, refl, sym, ap, ◌∙◌, subst}
+use Rattle.std.specs.Prelude.{if◌then◌else◌, ◌==◌, ◌||◌}
 use Rattle.std.specs.Option.{option_map}
 use Rattle.std.specs.List.{AllByRecursion}
 use Rattle.op_base.specs.declared.missing.Missing.{Missing}
 use Rattle.ds_lex.specs.declared.token.Mode.TheVariants.{Inner}
 use Rattle.ds_lex.specs.declared.refusal.Refusal.{Refusal}
 use Rattle.ds_lex.specs.Lexemes.{Lexeme, lexed_text}
-use Rattle.ds_lex.specs.Reading.{◌>>=◌, finish_at}
-use Rattle.ds_lex.specs.Phrases.{word, nothing_where}
+use Rattle.ds_lex.specs.Reading.{finish_at}
 use Rattle.ds_lex.proofs.Readers.{bind_ok}
 use Rattle.ds_schema.specs.declared.schema.Field.{Field}
 use Rattle.ds_schema.specs.declared.schema_text.fault.SchemaFault.{SchemaFault}
@@ -21,7 +20,6 @@ use Rattle.ds_schema.proofs.ColumnLists.{keys_stand}
 use Rattle.flow_graph.specs.declared.flow.Mark.{Mark}
 use Rattle.flow_graph.specs.declared.flow.Mark.TheVariants as mark
 use Rattle.flow_graph.specs.declared.op_kind.OpKind.{OpKind}
-use Rattle.flow_graph.specs.declared.op_kind.OpKind.TheVariants as kind
 use Rattle.flow_shape.specs.Naming.{NamesDiffer}
 use Rattle.flow_shape.specs.Options.{KeysDistinct}
 use Rattle.osh_table.specs.declared.operator.OpName.{OpName}
@@ -33,10 +31,10 @@ use Rattle.osh_table.specs.declared.option.Form.TheVariants as form
 use Rattle.osh_value.specs.declared.value.OptValue.{OptValue}
 use Rattle.osh_value.specs.declared.value.OptValue.TheVariants as value
 use Rattle.osh_value.specs.declared.setting.Setting.{Setting}
-use Rattle.osh_value.specs.Values.{content_of, file_value, data_set_value, schema_value, delim_value, missing_named, new_name_at, rename_at, renames_at, widths_at, said_at, whole_at, if_read, unless_bad, inside, value_of}
-use Rattle.osh_value.specs.Kinds.{number_of, found_value, name_in, schema_in, delim_in, widths_in, stands, keys_in, with_value, kind_of}
+use Rattle.osh_value.specs.Values.{content_of, file_value, schema_value, delim_value, missing_named, new_name_at, rename_at, renames_at, widths_at, said_at, whole_at, if_read, unless_bad, inside, value_of}
+use Rattle.osh_value.specs.Kinds.{number_of, found_value, name_in, schema_in, keys_in, with_value, kind_of}
 use Rattle.osh_read.specs.Stages.{plain_mark, bears}
-use Rattle.osh_sound.specs.Grammar.{WrittenOption, setting_of, value_phrase, option_phrase, options_phrase, mark_word, mark_phrase}
+use Rattle.osh_sound.specs.Grammar.{WrittenOption, setting_of, value_phrase, options_phrase, mark_word, mark_phrase}
 use Rattle.osh_sound.specs.Sound.{MarkFits}
 
 some_is : {A : Type 0} (x y : A) → (let o : Option A = Some x in o) ≡ Some y → x ≡ y

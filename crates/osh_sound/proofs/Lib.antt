@@ -6,3 +6,13 @@ pub mod FlowsHold
 pub mod KindsKeep
 pub mod JoinsKeep
 pub mod FlowsKeep
+pub mod WorkedTexts
+pub mod TokensSound
+pub mod PhrasesPass
+pub mod MethodsRead
+pub mod OptionsRead
+pub mod StagesRead
+pub mod FlowsRead
+pub mod ValuesBack
+pub mod OptionsPrinted
+pub mod OperatorsWritten

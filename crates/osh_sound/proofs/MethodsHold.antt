@@ -1,5 +1,5 @@
 -- What is read as a method is one.
-use Rattle.std.proofs.Common.{◌≡◌, inl, inr, ℕ, List, [], ◌∷◌, Bool, true, false, Result, Ok, Err, Option, Some, None, refl, sym, ap, ◌∙◌, subst}
+use Rattle.std.proofs.Common.{◌≡◌, inl, inr, ℕ, List, ◌∷◌, Bool, true, false, Result, Ok, Option, Some, None, refl, sym, ap, ◌∙◌, subst}
 use Rattle.std.specs.Prelude.{if◌then◌else◌, codes}
 use Rattle.std.specs.Str.{bytes_eq}
 use Rattle.ds_value.specs.Names.{IsName}
@@ -7,7 +7,7 @@ use Rattle.ds_lex.specs.declared.token.Sort.TheVariants as sort
 use Rattle.ds_lex.specs.declared.refusal.Refusal.{Refusal}
 use Rattle.ds_lex.specs.Lexemes.{Lexeme}
 use Rattle.ds_lex.specs.Reading.{◌>>=◌, refuse, sort_at, expect_at, accept_at}
-use Rattle.ds_lex.specs.Phrases.{Phrase, word, token, nothing_where, ◌~◌, ◌<|>◌}
+use Rattle.ds_lex.specs.Phrases.{Phrase, word, nothing_where, ◌~◌, ◌<|>◌}
 use Rattle.ds_lex.proofs.Readers.{bind_ok, same_bytes}
 use Rattle.ds_schema.specs.ColumnGrammar.{names_form, keys_form}
 use Rattle.ds_schema.specs.ColumnReading.{is_name, held, name_at, names_at, keys_at}
@@ -20,7 +20,6 @@ use Rattle.flow_graph.specs.declared.flow.Flag.TheVariants as flag
 use Rattle.osh_value.proofs.Names.{tested_name}
 use Rattle.osh_read.specs.declared.fault.OshWhy.{OshWhy}
 use Rattle.osh_read.specs.declared.fault.OshWhy.TheVariants as why
-use Rattle.osh_read.specs.Reading.{Read}
 use Rattle.osh_read.specs.Methods.{flag_named, method_named, method_of, kind_at, prop_at, clear_at, flag_at, closed_at, behind_at, bracket_at, method_at}
 use Rattle.osh_sound.specs.Grammar.{flag_word, name_form, kind_phrase, inside_phrase, method_phrase}
 use Rattle.osh_sound.proofs.Fronts.{pair_parts, one_of, sort_taken, expect_taken}

@@ -1,14 +1,14 @@
 -- What is read as an operator with its options is one.
-use Rattle.std.proofs.Common.{◌≡◌, ◌⊎◌, inl, inr, ℕ, zero, suc, List, [], ◌∷◌, ◌++◌, length, map, drop, Bool, true, false, Result, Ok, Err, Option, Some, None, refl, sym, ap, ◌∙◌, subst, append_assoc}
-use Rattle.std.specs.Prelude.{if◌then◌else◌, nat_le}
+use Rattle.std.proofs.Common.{◌≡◌, ◌⊎◌, inl, inr, ℕ, zero, suc, List, [], ◌∷◌, ◌++◌, length, map, Bool, true, false, Result, Ok, Err, Option, Some, None, refl, sym, ap, ◌∙◌, subst, append_assoc}
+use Rattle.std.specs.Prelude.{if◌then◌else◌, nat_le, not, ◌&&◌}
 use Rattle.std.proofs.lemmas.List.{append-nil}
 use Rattle.ds_lex.specs.declared.token.Sort.{Sort}
 use Rattle.ds_lex.specs.declared.token.Sort.TheVariants as sort
 use Rattle.ds_lex.specs.declared.refusal.Refusal.{Refusal}
 use Rattle.ds_lex.specs.declared.refusal.Refusal.TheVariants as refusal
 use Rattle.ds_lex.specs.Lexemes.{Lexeme}
-use Rattle.ds_lex.specs.Reading.{◌>>=◌, refuse, sort_at, first_of}
-use Rattle.ds_lex.specs.Phrases.{Phrase, token, nothing, ◌~◌}
+use Rattle.ds_lex.specs.Reading.{◌>>=◌, sort_at, first_of}
+use Rattle.ds_lex.specs.Phrases.{token, ◌~◌}
 use Rattle.ds_lex.proofs.Readers.{bind_ok}
 use Rattle.ds_schema.proofs.ListReaders.{ok_parts}
 use Rattle.flow_graph.specs.declared.op_kind.OpKind.{OpKind}
@@ -26,8 +26,8 @@ use Rattle.osh_value.specs.Kinds.{kind_of}
 use Rattle.osh_read.specs.declared.fault.OshWhy.{OshWhy}
 use Rattle.osh_read.specs.declared.fault.OshWhy.TheVariants as why
 use Rattle.osh_read.specs.Reading.{Read, repeated, append, if_comes}
-use Rattle.osh_read.specs.Options.{is_value, is_opt, is_flag, known, lacks_value, clashes, given, value_or, taken, taken_at, setting_at, opt_at, next_setting_at, settings_at, is_missing, operator_of, complete, head_at}
-use Rattle.osh_sound.specs.Grammar.{WrittenOption, setting_of, said, value_phrase, option_phrase, options_phrase, StandTogether}
+use Rattle.osh_read.specs.Options.{is_value, is_opt, is_flag, known, lacks_value, clashes, given, taken, taken_at, setting_at, opt_at, next_setting_at, settings_at, is_missing, lacks_option, ends_ahead, operator_of, complete, head_at}
+use Rattle.osh_sound.specs.Grammar.{WrittenOption, setting_of, value_phrase, options_phrase, StandTogether, full}
 use Rattle.osh_sound.proofs.Fronts.{pair_parts, sort_taken}
 
 -- a test that was passed, and what follows it
@@ -175,12 +175,21 @@ repeated_hold op cut (suc n) found all ts rest h =
 
 -- ---- an operator with its options
 
-pub record IsHead (before : ℕ) (op : OpName) (kind : OpKind) (ts rest : List Lexeme) : Type 0 where
+pub record IsHead (before : ℕ) (cut : Bool) (op : OpName) (kind : OpKind) (ts rest : List Lexeme) : Type 0 where
   pub options : List WrittenOption
-  pub stand : (token sort.Word (λ bytes. operator_named bytes ≡ Some op) ~ options_phrase op options) ts rest
+  pub stand : cut ≡ false → (token sort.Word (λ bytes. operator_named bytes ≡ Some op) ~ full op ~ options_phrase op options) ts rest
   pub together : StandTogether [] options
   pub says : kind_of op (map setting_of options) ≡ Some kind
   pub room : nat_le 200 before ≡ false
+
+not_missing_by : (l e cut : Bool) → cut ≡ false → (l && not (e && cut)) ≡ false → l ≡ false
+not_missing_by false e cut c h = refl
+not_missing_by true true true c h = c
+not_missing_by true true false c h = absurd cc
+not_missing_by true false cut c h = absurd cc
+
+not_missing : (op : OpName) (cut : Bool) (ts : List Lexeme) → is_missing op cut ts ≡ false → cut ≡ false → lacks_option op ts ≡ false
+not_missing op cut ts h c = not_missing_by (lacks_option op ts) (ends_ahead false ts) cut c h
 
 operator_is : (o : Option OpName) (w : Lexeme) (op : OpName) → operator_of o w ≡ Ok op → o ≡ Some op
 operator_is None w op h = absurd cc
@@ -190,7 +199,7 @@ complete_is : (o : Option OpKind) (kind : OpKind) → complete o ≡ Ok kind →
 complete_is None kind h = absurd cc
 complete_is (Some k) kind h = let e : k ≡ kind = cc in ap (λ x. Some x) e
 
-pub head_holds : (before : ℕ) (cut : Bool) (ts rest : List Lexeme) (h : OpName × OpKind) → head_at before cut ts ≡ Ok (h, rest) → IsHead before h.0 h.1 ts rest
+pub head_holds : (before : ℕ) (cut : Bool) (ts rest : List Lexeme) (h : OpName × OpKind) → head_at before cut ts ≡ Ok (h, rest) → IsHead before cut h.0 h.1 ts rest
 unfolding head_at
 head_holds before cut ts rest h r =
     let a = bind_ok (sort_at sort.Word why.Syntax ts) _ (h, rest) r in
@@ -203,11 +212,11 @@ head_holds before cut ts rest h r =
     let p = pair_parts (b.0, f.0) h k.0 in
     let s = sort_taken sort.Word why.Syntax ts a.0.1 a.0.0 a.1 in
     let o = repeated_hold b.0 cut (length a.0.1) [] e.0.0 a.0.1 e.0.1 e.1 in
-    let made : IsHead before b.0 f.0 ts e.0.1 = record {
+    let made : IsHead before cut b.0 f.0 ts e.0.1 = record {
       options = o.others;
-      stand = subst (λ (us : List Lexeme). (token sort.Word (λ bytes. operator_named bytes ≡ Some b.0) ~ options_phrase b.0 o.others) us e.0.1) (sym s.0) (a.0.1, (s.1, operator_is (operator_named a.0.0.bytes) a.0.0 b.0 b.1, refl), o.stand);
+      stand = λ whole. subst (λ (us : List Lexeme). (token sort.Word (λ bytes. operator_named bytes ≡ Some b.0) ~ full b.0 ~ options_phrase b.0 o.others) us e.0.1) (sym s.0) (a.0.1, (s.1, operator_is (operator_named a.0.0.bytes) a.0.0 b.0 b.1, refl), (a.0.1, (not_missing b.0 cut a.0.1 c.0 whole, refl), o.stand));
       together = o.together;
       says = ap (kind_of b.0) (sym o.joined) ∙ complete_is (kind_of b.0 e.0.0) f.0 f.1;
       room = d.0;
     } in
-    subst (λ (us : List Lexeme). IsHead before h.0 h.1 ts us) k.1 (subst (λ (x : OpKind). IsHead before h.0 x ts e.0.1) p.1 (subst (λ (x : OpName). IsHead before x f.0 ts e.0.1) p.0 made))
+    subst (λ (us : List Lexeme). IsHead before cut h.0 h.1 ts us) k.1 (subst (λ (x : OpKind). IsHead before cut h.0 x ts e.0.1) p.1 (subst (λ (x : OpName). IsHead before cut x f.0 ts e.0.1) p.0 made))

@@ -1,21 +1,18 @@
 -- What is read as stages are stages.
-use Rattle.std.proofs.Common.{◌≡◌, ◌≤◌, ◌<◌, ◌+◌, ◌⊎◌, inl, inr, ℕ, zero, suc, List, [], ◌∷◌, ◌++◌, length, map, Bool, true, false, Result, Ok, Err, Option, Some, None, refl, sym, ap, ◌∙◌, subst, append_assoc, arith, length-append}
+use Rattle.std.proofs.Common.{◌≡◌, ◌≤◌, ◌<◌, ◌+◌, inl, inr, ℕ, zero, suc, List, [], ◌∷◌, ◌++◌, length, Bool, true, false, Ok, Option, Some, None, refl, sym, ap, ◌∙◌, subst, append_assoc, arith, length-append}
 use Rattle.std.specs.Prelude.{if◌then◌else◌, nat_le, ◌==◌, codes}
 use Rattle.std.specs.Str.{bytes_eq}
 use Rattle.std.proofs.lemmas.List.{append-nil}
 use Rattle.std.proofs.lemmas.Bool.{eqb-true}
 use Rattle.ds_lex.specs.declared.token.Sort.TheVariants as sort
-use Rattle.ds_lex.specs.declared.refusal.Refusal.{Refusal}
-use Rattle.ds_lex.specs.declared.refusal.Refusal.TheVariants as refusal
 use Rattle.ds_lex.specs.Lexemes.{Lexeme}
-use Rattle.ds_lex.specs.Reading.{◌>>=◌, refuse, token_at, sort_at, expect_at, accept_at, finish_at}
-use Rattle.ds_lex.specs.Phrases.{Phrase, word, token, nothing, nothing_where, ◌~◌, ◌<|>◌}
+use Rattle.ds_lex.specs.Reading.{refuse, token_at, sort_at, expect_at, accept_at, finish_at}
+use Rattle.ds_lex.specs.Phrases.{word, token, nothing, ◌~◌, ◌<|>◌}
 use Rattle.ds_lex.proofs.Readers.{bind_ok, same_bytes}
 use Rattle.ds_schema.proofs.ListReaders.{ok_parts, accepted, passed}
 use Rattle.flow_graph.specs.declared.flow.Mark.{Mark}
 use Rattle.flow_graph.specs.declared.flow.Mark.TheVariants as mark
 use Rattle.osh_table.specs.declared.operator.OpName.{OpName}
-use Rattle.osh_table.specs.Words.{operator_named}
 use Rattle.osh_read.specs.declared.fault.OshWhy.{OshWhy}
 use Rattle.osh_read.specs.declared.fault.OshWhy.TheVariants as why
 use Rattle.osh_read.specs.declared.stage.Redirect.{Redirect}
@@ -31,10 +28,10 @@ use Rattle.osh_read.specs.Methods.{method_at}
 use Rattle.osh_read.specs.Options.{head_at}
 use Rattle.osh_read.specs.Stages.{plain_mark, bears, mark_named, mark_of, marked_at, mark_at, input_at, output_at, maybe_output_at, redirect_at, redirects_at, stage_at, over_at, piped_at, apart_at, ended_at, behind_stage_at, joint_at, stages_at, directed_at, nosort_at, directive_at, directed}
 use Rattle.std.proofs.lemmas.Bool.{leb-false}
-use Rattle.osh_sound.specs.Grammar.{method_phrase, mark_word, mark_phrase, sign, redirect_phrase, redirects_phrase, options_phrase, WrittenStage, stage_phrase, IsStage, joint_phrase, further_phrase, AreStages, stages_of, directive_word, directives_phrase, all_directed}
-use Rattle.osh_sound.proofs.Fronts.{pair_parts, one_of, sort_taken, token_taken, expect_taken, sign_came, sign_missed}
+use Rattle.osh_sound.specs.Grammar.{method_phrase, mark_word, mark_phrase, redirect_phrase, redirects_phrase, WrittenStage, stage_phrase, IsStage, joint_phrase, further_phrase, AreStages, stages_of, directive_word, directives_phrase, all_directed}
+use Rattle.osh_sound.proofs.Fronts.{one_of, sort_taken, token_taken, expect_taken, sign_came, sign_missed}
 use Rattle.osh_sound.proofs.MethodsHold.{method_holds}
-use Rattle.osh_sound.proofs.OptionsHold.{IsHead, head_holds}
+use Rattle.osh_sound.proofs.OptionsHold.{head_holds}
 
 -- ---- marks
 
@@ -152,15 +149,15 @@ redirects_hold (suc n) found all ts rest h =
 
 -- ---- stages
 
-pub record StageHolds (before : ℕ) (joined : Joint) (s : Stage) (ts rest : List Lexeme) : Type 0 where
+pub record StageHolds (before : ℕ) (cut : Bool) (joined : Joint) (s : Stage) (ts rest : List Lexeme) : Type 0 where
   pub written : WrittenStage
   pub same : written.stage ≡ s
-  pub phrase : stage_phrase written ts rest
+  pub phrase : cut ≡ false → stage_phrase written ts rest
   pub stage : IsStage written
   pub joint : s.joined ≡ joined
   pub room : nat_le 200 before ≡ false
 
-stage_holds : (before : ℕ) (cut : Bool) (joined : Joint) (s : Stage) (ts rest : List Lexeme) → stage_at before cut joined ts ≡ Ok (s, rest) → StageHolds before joined s ts rest
+stage_holds : (before : ℕ) (cut : Bool) (joined : Joint) (s : Stage) (ts rest : List Lexeme) → stage_at before cut joined ts ≡ Ok (s, rest) → StageHolds before cut joined s ts rest
 unfolding stage_at
 stage_holds before cut joined s ts rest h =
     let a = bind_ok (head_at before cut ts) _ (s, rest) h in
@@ -175,7 +172,7 @@ stage_holds before cut joined s ts rest h =
     record {
       written = record { op = a.0.0.0; options = head.options; stage = made };
       same = k.0;
-      phrase = (head.stand.0, head.stand.1, (a.0.1, head.stand.2, (b.0.1, marked, outs)));
+      phrase = λ whole. (let f = head.stand whole in (f.0, f.1, (f.2.0, f.2.1, (a.0.1, f.2.2, (b.0.1, marked, outs)))));
       stage = record { together = head.together; says = head.says };
       joint = ap (λ (x : Stage). x.joined) (sym k.0);
       room = head.room;
@@ -252,7 +249,7 @@ few_before n h = leb-false 200 n h
 
 stages_by : (n : ℕ) (cut : Bool) (joined : Joint) (found all : List Stage) (s : Stage) (ts us vs rest : List Lexeme) (o : Option Joint)
     → ((next : Joint) (more : List Stage) (xs : List Lexeme) → stages_at n cut next more xs ≡ Ok (all, rest) → AreRead cut next more all xs rest)
-    → StageHolds (length found) joined s ts us → Joins cut us vs o → if_comes o (λ next. stages_at n cut next (found ++ s ∷ []) vs) (Ok (found ++ s ∷ [], vs)) ≡ Ok (all, rest) → AreRead cut joined found all ts rest
+    → StageHolds (length found) cut joined s ts us → Joins cut us vs o → if_comes o (λ next. stages_at n cut next (found ++ s ∷ []) vs) (Ok (found ++ s ∷ [], vs)) ≡ Ok (all, rest) → AreRead cut joined found all ts rest
 stages_by n cut joined found all s ts us vs rest None more st j h =
     let k = ok_parts (found ++ s ∷ [], vs) (all, rest) h in
     let room = few_before (length found) st.room in
@@ -261,7 +258,7 @@ stages_by n cut joined found all s ts us vs rest None more st j h =
       others = [];
       parts = sym k.0 ∙ ap (λ (x : Stage). found ++ x ∷ []) (sym st.same);
       joint = ap (λ (x : Stage). x.joined) st.same ∙ st.joint;
-      phrase = (us, st.phrase, subst (λ (xs : List Lexeme). (word (codes ";") <|> nothing) us xs) k.1 j.2);
+      phrase = (us, st.phrase j.0, subst (λ (xs : List Lexeme). (word (codes ";") <|> nothing) us xs) k.1 j.2);
       stages = (st.stage, tt);
       few = omega arith;
       ends = sym k.1 ∙ j.1;
@@ -276,7 +273,7 @@ stages_by n cut joined found all s ts us vs rest (Some next) more st j h =
       others = r.first ∷ r.others;
       parts = r.parts ∙ (append_assoc found (s ∷ []) (r.first.stage ∷ stages_of r.others) ∙ ap (λ (x : Stage). found ++ (x ∷ (r.first.stage ∷ stages_of r.others))) (sym st.same));
       joint = ap (λ (x : Stage). x.joined) st.same ∙ st.joint;
-      phrase = (us, st.phrase, (vs, subst (λ (x : Joint). joint_phrase x us vs) (sym r.joint) j, r.phrase));
+      phrase = (us, st.phrase r.whole, (vs, subst (λ (x : Joint). joint_phrase x us vs) (sym r.joint) j, r.phrase));
       stages = (st.stage, r.stages);
       few = omega arith;
       ends = r.ends;

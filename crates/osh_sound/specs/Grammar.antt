@@ -6,12 +6,12 @@
 --   redirect  = "<" [ method ] WORD | ">" WORD
 --   method    = "[" kind [ keys ] [ flag ] "]" | "[" flag "]"
 --   flag      = "set" | "clear" | "prop"
-use Rattle.std.specs.Prelude.{◌≡◌, ◌≤◌, ℕ, List, [], ◌∷◌, ◌++◌, length, map, Option, Some, None, Bool, true, false, codes}
+use Rattle.std.specs.Prelude.{◌≡◌, ◌≤◌, ℕ, List, [], ◌∷◌, ◌++◌, length, map, Some, None, true, false, codes}
 use Rattle.ds_value.specs.Names.{IsName}
 use Rattle.ds_lex.specs.declared.token.Mode.TheVariants.{Osh}
 use Rattle.ds_lex.specs.declared.token.Sort.TheVariants as sort
 use Rattle.ds_lex.specs.declared.lexeme.End.TheVariants as ends
-use Rattle.ds_lex.specs.Lexemes.{Lexeme, LimitedText, limited_text}
+use Rattle.ds_lex.specs.Lexemes.{Lexeme, limited_text}
 use Rattle.ds_lex.specs.Phrases.{Phrase, word, token, nothing, nothing_where, ◌~◌, ◌<|>◌}
 use Rattle.ds_schema.specs.ColumnGrammar.{names_form, keys_form}
 use Rattle.flow_graph.specs.declared.flow.Mark.{Mark}
@@ -40,7 +40,7 @@ use Rattle.osh_read.specs.declared.stage.Stage.{Stage}
 use Rattle.osh_read.specs.declared.stage.Directive.{Directive}
 use Rattle.osh_read.specs.declared.stage.Directive.TheVariants as directive
 use Rattle.osh_read.specs.declared.stage.Directives.{Directives}
-use Rattle.osh_read.specs.Options.{is_value, clashes}
+use Rattle.osh_read.specs.Options.{is_value, clashes, lacks_option}
 use Rattle.osh_read.specs.Stages.{plain_mark, bears, directed, no_directives}
 use Rattle.osh_read.specs.Joining.{unjoined}
 use Rattle.osh_read.specs.Flows.{made}
@@ -132,6 +132,10 @@ abbrev pub redirects_phrase : List Redirect → Phrase
 redirects_phrase [] = nothing
 redirects_phrase (r ∷ rs) = redirect_phrase r ~ redirects_phrase rs
 
+-- the options that the operator must have stand among those at the front
+abbrev pub full : OpName → Phrase
+full op ts rest = (lacks_option op ts ≡ false) × (ts ≡ rest)
+
 -- a stage as it is written
 pub record WrittenStage : Type 0 where
   pub op : OpName
@@ -139,9 +143,9 @@ pub record WrittenStage : Type 0 where
   pub stage : Stage
 
 abbrev pub stage_phrase : WrittenStage → Phrase
-stage_phrase w = token sort.Word (λ bytes. operator_named bytes ≡ Some w.op) ~ options_phrase w.op w.options ~ mark_phrase w.op w.stage.mark ~ redirects_phrase w.stage.redirects
+stage_phrase w = token sort.Word (λ bytes. operator_named bytes ≡ Some w.op) ~ full w.op ~ options_phrase w.op w.options ~ mark_phrase w.op w.stage.mark ~ redirects_phrase w.stage.redirects
 
--- the options exclude none of each other, and say the operator, which lacks none that it must have
+-- the options exclude none of each other, and say the operator
 pub record IsStage (w : WrittenStage) : Type 0 where
   pub together : StandTogether [] w.options
   pub says : kind_of w.op (map setting_of w.options) ≡ Some w.stage.kind

@@ -2,16 +2,42 @@
 //! function does nothing, and its contract is the law.
 #![tactic(auto)]
 
-ghost use Rattle.osh_sound.specs.GrammarLaws.{ReadIsSpelled};
+mod worked;
+
+ghost use Rattle.osh_sound.specs.GrammarLaws.{OneIsSpelled, ReadIsSpelled, RefusedIsNone, SpelledIsRead};
+ghost use Rattle.osh_sound.specs.ValueLaws.{ValuesReadBack};
+ghost use Rattle.osh_sound.specs.OperatorLaws.{WrittenIsPrinted, WrittenSays};
+ghost use Rattle.osh_sound.specs.OptionLaws.{OptionsArePrinted};
 ghost use Rattle.osh_sound.specs.Sound.{ReadIsJoined, ReadKeepsMarks};
 
-/// The flow that is read of a text is one that the text spells.
+pub use worked::{joined_texts, refused_texts};
+
+/// A text is read as a flow where it spells it, and only there.
 pub fn flows_are_spelled()
-    ensures { ReadIsSpelled }
+    ensures read { ReadIsSpelled }
+    ensures spelled { SpelledIsRead }
+    ensures refused { RefusedIsNone }
+    ensures one { OneIsSpelled }
 {}
 
 /// The flow that is read of a text can be shaped, and its operators run as they can.
 pub fn flows_can_be_shaped()
     ensures joined { ReadIsJoined }
     ensures marks { ReadKeepsMarks }
+{}
+
+/// The printed value of an option is read as the value.
+pub fn values_read_back()
+    ensures { ValuesReadBack }
+{}
+
+/// Options are printed as the tokens that spell them.
+pub fn options_are_printed()
+    ensures { OptionsArePrinted }
+{}
+
+/// The options that are printed of an operator say it.
+pub fn operators_are_written()
+    ensures says { WrittenSays }
+    ensures printed { WrittenIsPrinted }
 {}

@@ -1,0 +1,89 @@
+-- What the printed value of an option is read as.
+use Rattle.std.specs.Prelude.{◌≡◌, ◌≤◌, ℕ, Bool, false, ◌==◌, ◌||◌, List, [], ◌∷◌, ◌++◌, length, Some}
+use Rattle.std.specs.List.{AllByRecursion}
+use Rattle.std.specs.Fmt.{decimal}
+use Rattle.op_base.specs.declared.missing.Missing.{Missing}
+use Rattle.ds_schema.specs.declared.schema.Field.{Field}
+use Rattle.ds_value.specs.Names.{IsName}
+use Rattle.ds_lex.specs.Tokens.{IsWord}
+use Rattle.ds_schema.specs.Schemas.{IsFieldName, IsSchema}
+use Rattle.ds_schema.specs.SchemaText.{schema_text}
+use Rattle.ds_schema.specs.ColumnGrammar.{AreNamed, itself, key_name}
+use Rattle.ds_schema.specs.ColumnText.{names_text, keys_text}
+use Rattle.flow_graph.specs.declared.op_kind.AggSpec.{AggSpec}
+use Rattle.flow_graph.specs.declared.op_kind.AggSpec.TheVariants as agg
+use Rattle.osh_table.specs.declared.option.Form.{Form}
+use Rattle.osh_table.specs.declared.option.Form.TheVariants as form
+use Rattle.osh_value.specs.declared.value.OptValue.TheVariants as value
+use Rattle.osh_value.specs.Values.{has_old, value_of}
+use Rattle.osh_print.specs.OptionText.{with_commas, pair_text, missing_word}
+
+-- the bytes of a result, and its option
+abbrev pub agg_text : AggSpec → List ℕ
+agg_text (agg.Count new) = new
+agg_text (agg.Sum new old) = pair_text (new, old)
+agg_text (agg.Min new old) = pair_text (new, old)
+agg_text (agg.Max new old) = pair_text (new, old)
+agg_text (agg.First new old) = pair_text (new, old)
+agg_text (agg.Last new old) = pair_text (new, old)
+
+abbrev pub agg_form : AggSpec → Form
+agg_form (agg.Count new) = form.Count
+agg_form (agg.Sum new old) = form.Sum
+agg_form (agg.Min new old) = form.Min
+agg_form (agg.Max new old) = form.Max
+agg_form (agg.First new old) = form.First
+agg_form (agg.Last new old) = form.Last
+
+-- a column that can be named in a value
+abbrev pub IsColumn : List ℕ → Type 0
+IsColumn name = IsWord name × IsName name
+
+-- a new column, made of an old one
+abbrev pub IsPair : List ℕ × List ℕ → Type 0
+IsPair pair = IsFieldName pair.0 × IsColumn pair.1
+
+-- no old name stands in a pair before
+abbrev pub OldDiffer : List (List ℕ × List ℕ) → List (List ℕ × List ℕ) → Type 0
+OldDiffer before [] = Unit {0}
+OldDiffer before (p ∷ ps) = (has_old before p.1 ≡ false) × OldDiffer (before ++ p ∷ []) ps
+
+abbrev pub IsResult : AggSpec → Type 0
+IsResult (agg.Count new) = IsFieldName new
+IsResult (agg.Sum new old) = IsPair (new, old)
+IsResult (agg.Min new old) = IsPair (new, old)
+IsResult (agg.Max new old) = IsPair (new, old)
+IsResult (agg.First new old) = IsPair (new, old)
+IsResult (agg.Last new old) = IsPair (new, old)
+
+pub record AreWidths (widths : List ℕ) : Type 0 where
+  pub some : 1 ≤ length widths
+  pub each : AllByRecursion (λ w. (1 ≤ w) × (w ≤ 65536)) widths
+
+pub record ArePairs (pairs : List (List ℕ × List ℕ)) : Type 0 where
+  pub some : 1 ≤ length pairs
+  pub each : AllByRecursion IsPair pairs
+  pub differ : OldDiffer [] pairs
+
+pub record AreColumns (names : List (List ℕ)) : Type 0 where
+  pub some : 1 ≤ length names
+  pub named : AreNamed itself names
+  pub words : AllByRecursion IsWord names
+
+pub record AreKeys (keys : List (List ℕ × Bool)) : Type 0 where
+  pub some : 1 ≤ length keys
+  pub named : AreNamed key_name keys
+  pub words : AllByRecursion (λ (k : List ℕ × Bool). IsWord k.0) keys
+
+-- what is printed of a value is read as the value
+pub record ValuesReadBack : Type 0 where
+  pub file : (name : List ℕ) → IsName name → value_of form.File name ≡ Some (value.Name name)
+  pub data_set : (name : List ℕ) → IsName name → length name ≤ 252 → value_of form.DataSet name ≡ Some (value.Name name)
+  pub schema : (fields : List Field) → IsSchema fields → value_of form.Schema (schema_text fields) ≡ Some (value.Schema fields)
+  pub delim : (b : ℕ) → ((b == 10) || (b == 13) || (b == 34)) ≡ false → value_of form.Delim (b ∷ []) ≡ Some (value.Delim b)
+  pub widths : (widths : List ℕ) → AreWidths widths → value_of form.Widths (with_commas decimal widths) ≡ Some (value.Widths widths)
+  pub columns : (names : List (List ℕ)) → AreColumns names → value_of form.Columns (names_text names) ≡ Some (value.Columns names)
+  pub keys : (keys : List (List ℕ × Bool)) → AreKeys keys → value_of form.Keys (keys_text keys) ≡ Some (value.Keys keys)
+  pub renames : (pairs : List (List ℕ × List ℕ)) → ArePairs pairs → value_of form.Renames (with_commas pair_text pairs) ≡ Some (value.Renames pairs)
+  pub results : (r : AggSpec) → IsResult r → value_of (agg_form r) (agg_text r) ≡ Some (value.Result r)
+  pub missing : (m : Missing) → value_of form.Missing (missing_word m) ≡ Some (value.Missing m)
