@@ -122,9 +122,9 @@ routed_here dict c shape s b l h =
     let here = all_at (λ (x : LinkSpec). is_built_link c.flow.ops x ≡ true) c.flow.links l no_link (each (is_built_link c.flow.ops) c.flow.links parts.1) h in
     let keys = ap (λ (ps : List OpParts). (get_or ps o no_parts).keys) s.parts ∙ ap (λ (p : OpParts). p.keys) (get_or-map-range_with_len (parts_at c) 0 (length c.flow.ops) o o no_parts o_in (omega arith)) in
     some_route (is_seq (op_at c link.from).mark) (into_seq c l) (needs_sort (op_at c o).kind) (unsorted (sort_key (form_at c o) link.port)) (fields_at c l) link.method (get_or c.written l None)
-        (ap (λ ws. get_or ws l None) s.written ∙ get_or-map-range_with_len (written_at c) 0 (length c.flow.links) l l None h (omega arith))
-        (both _ _ here).1
-        (λ n. no_sort (op_at c o).kind (inputs_at c o) (keys_at c o) (cols_at c o) (get_or c.stored o None) (first_width c o) link.port consumer n keys)
+    (ap (λ ws. get_or ws l None) s.written ∙ get_or-map-range_with_len (written_at c) 0 (length c.flow.links) l l None h (omega arith))
+    (both _ _ here).1
+    (λ n. no_sort (op_at c o).kind (inputs_at c o) (keys_at c o) (cols_at c o) (get_or c.stored o None) (first_width c o) link.port consumer n keys)
 
 pub routed : (flow : Flow) (dict : List Stored) (c : Chart) → IsShape c → IsShapeOf flow dict c → is_built flow ≡ true → IsRouted c
 routed flow dict c shape s b = routed_here dict c shape (subst (λ f. IsShapeOf f dict c) (sym s.same) s) (subst (λ f. is_built f ≡ true) (sym s.same) b)

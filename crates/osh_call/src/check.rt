@@ -20,11 +20,7 @@ use std::alloc::Global;
 
 /// The report of a verdict.
 #[tactic(auto, using(crate::proofs::Judged::is_of))]
-pub fn verdict_report(
-    alloc: Global,
-    shaped: &Shaped,
-    verdict: &Verdict,
-) -> Result<Bytes, NoMemory>
+pub fn verdict_report(alloc: Global, shaped: &Shaped, verdict: &Verdict) -> Result<Bytes, NoMemory>
     requires { IsVerdict false shaped.now verdict.now }
     ensures { IfOk result (λ text. text ≡ verdict_report shaped.now verdict.now) }
 {
@@ -56,12 +52,7 @@ fn tell<O: Sink>(alloc: Global, out: &mut O, shaped: &Shaped, verdict: &Verdict)
 }
 
 /// Says what the verdict on the flow in a file is.
-pub fn check<F: Files, O: Sink>(
-    alloc: Global,
-    files: &mut F,
-    out: &mut O,
-    name: &Name,
-) -> Answer
+pub fn check<F: Files, O: Sink>(alloc: Global, files: &mut F, out: &mut O, name: &Name) -> Answer
     ensures serves { IsTrue F.tells → Serves (ChecksFile (F.holds files.old) name.now) (F.holds files.old) (F.holds files.new) O.tells (O.held out.old) (O.held out.new) (Rose (F.faults files.old) (F.faults files.new)) (Rose (O.faults out.old) (O.faults out.new)) result }
     ensures device { result ≡ Answer.Device → Rose (F.faults files.old) (F.faults files.new) ⊎ Rose (O.faults out.old) (O.faults out.new) }
 {
