@@ -6,3 +6,6 @@ mod check;
 mod checking;
 mod say;
 mod stages;
+
+#[cfg(test)]
+mod tests;
