@@ -1,12 +1,9 @@
 -- How many links leave an operator.
-use Rattle.std.proofs.Common.{◌≡◌, ◌+◌, ◌<◌, ◌==◌, ◌&&◌, ℕ, zero, suc, Bool, true, false, cond, List, [], ◌∷◌, get_or, length, refl, sym, ap, ◌∙◌, subst, arith}
+use Rattle.std.proofs.Common.{◌≡◌, ◌+◌, ◌<◌, ◌==◌, ℕ, Bool, true, false, cond, List, [], ◌∷◌, length, refl, ap, ◌∙◌, arith}
 use Rattle.std.specs.List.{count_by}
 use Rattle.std.proofs.lemmas.List.Recursion.{is_count_by}
-use Rattle.op_base.specs.Columns.{IsIn}
-use Rattle.flow_graph.specs.Charts.{Chart, link_at, links_from, op_at}
+use Rattle.flow_graph.specs.Charts.{Chart, links_from, op_at}
 use Rattle.flow_graph.specs.declared.flow.LinkSpec.{LinkSpec}
-use Rattle.flow_graph.specs.declared.op_kind.OpKind.{OpKind}
-use Rattle.flow_graph.specs.declared.op_kind.OpKind.TheVariants as kind
 use Rattle.flow_shape.specs.Ports.{count_out, may_have_out}
 use Rattle.flow_shape.specs.Refusals.{IsShapeOf}
 use Rattle.flow_shape.proofs.Given.{has_ports}

@@ -1,18 +1,14 @@
 -- Operators whose files are read one after another.
-use Rattle.std.proofs.Common.{◌≡◌, ◌+◌, ◌<◌, ◌==◌, ◌&&◌, not, ℕ, zero, suc, Bool, true, false, cond, List, [], ◌∷◌, ◌++◌, map, flat_map, get_or, length, inl, inr, append_assoc, refl, sym, ap, ap₂, ◌∙◌, subst, arith}
-use Rattle.std.specs.List.{list_all, range_with_len, AllByRecursion}
+use Rattle.std.proofs.Common.{◌≡◌, ◌+◌, ◌<◌, ◌==◌, ◌&&◌, ℕ, zero, suc, Bool, true, false, cond, List, [], ◌∷◌, ◌++◌, flat_map, get_or, length, inl, inr, append_assoc, refl, sym, ap, ap₂, ◌∙◌, subst, arith}
+use Rattle.std.specs.List.{list_all, range_with_len}
 use Rattle.std.proofs.lemmas.Bool.{eqb-true}
 use Rattle.std.proofs.lemmas.Bool.Decides.{nat_tests}
 use Rattle.std.proofs.lemmas.List.{append-nil, get_or_append_left}
 use Rattle.std.proofs.Math.Seq.{get_or-append_seam}
-use Rattle.ds_schema.specs.declared.key.Key.{Key}
-use Rattle.ds_schema.specs.declared.schema.Field.{Field}
 use Rattle.ds_port.specs.FileMap.{FileMap}
-use Rattle.op_base.specs.declared.fault.Fault.{Fault}
 use Rattle.op_base.specs.Columns.{IsIn, Row}
 use Rattle.op_base.specs.Keyed.{get_keys}
 use Rattle.op_base.specs.RowOperators.{copy_rule, sink_rule}
-use Rattle.op_base.proofs.ColumnLaws.{in_bounds}
 use Rattle.flow_files.specs.declared.tally.Tally.{Tally}
 use Rattle.flow_files.specs.Lines.{beyond}
 use Rattle.flow_files.specs.Tallies.{Grows}

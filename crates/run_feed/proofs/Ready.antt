@@ -1,12 +1,11 @@
 -- A flow that is ready can be run over lists.
-use Rattle.std.proofs.Common.{◌≡◌, ◌<◌, ◌==◌, ◌&&◌, not, ℕ, zero, suc, Bool, true, false, cond, List, [], ◌∷◌, All, map, get_or, length, Option, None, Some, refl, sym, ap, ◌∙◌, subst, arith}
+use Rattle.std.proofs.Common.{◌≡◌, ◌<◌, ◌==◌, ◌&&◌, not, ℕ, zero, suc, Bool, true, false, cond, List, [], ◌∷◌, All, map, get_or, length, Option, None, refl, sym, ap, ◌∙◌, subst, arith}
 use Rattle.std.specs.List.{list_all}
 use Rattle.std.proofs.lemmas.Bool.{eqb-true}
 use Rattle.std.proofs.lemmas.List.FromFn.{get_or-map-range_with_len}
 use Rattle.ds_schema.specs.declared.key.Key.{Key}
 use Rattle.ds_schema.specs.declared.schema.Field.{Field}
 use Rattle.op_base.specs.Columns.{Row, IsIn}
-use Rattle.flow_graph.specs.declared.flow.LinkSpec.{LinkSpec}
 use Rattle.flow_graph.specs.declared.flow.Mark.{Mark}
 use Rattle.flow_graph.specs.declared.flow.Mark.TheVariants as mark
 use Rattle.flow_graph.specs.declared.flow.Method.{Method}
@@ -16,11 +15,10 @@ use Rattle.flow_graph.specs.declared.op_kind.OpKind.{OpKind}
 use Rattle.flow_graph.specs.declared.op_kind.OpKind.TheVariants as kind
 use Rattle.flow_graph.specs.declared.parts.Stored.{Stored}
 use Rattle.flow_graph.specs.declared.route.Choice.{Choice}
-use Rattle.flow_graph.specs.declared.route.Route.{Route}
 use Rattle.flow_graph.specs.Charts.{Chart, all_links, cols_at, first_width, into_seq, is_seq, keys_at, kind_form, link_at, links_from, links_into, no_link, no_op, op_at, width_at}
 use Rattle.flow_graph.specs.FlowShape.{FormPorts, IsShape, WrittenFits}
 use Rattle.flow_rules.specs.Verdicts.{choice_at, written_or_same}
-use Rattle.flow_score.specs.Scores.{choice_of, degree, degree_at as score_degree, is_same, joins_unequal, no_choice}
+use Rattle.flow_score.specs.Scores.{choice_of, degree, degree_at as score_degree, is_same, no_choice}
 use Rattle.flow_shape.specs.Methods.{written_route}
 use Rattle.flow_shape.specs.Options.{first_fields, output_fields}
 use Rattle.flow_shape.specs.Ports.{may_have_out}
@@ -32,7 +30,7 @@ use Rattle.flow_sound.proofs.Fitting.{given_there}
 use Rattle.flow_sound.proofs.Order.{leaves_it}
 use Rattle.list_run.specs.Routed.{Joins}
 use Rattle.list_run.specs.Runnable.{CanRun, IsBuilt, IsRow, degree_at}
-use Rattle.osh_ends.specs.Built.{is_built, is_built_link, is_built_method, is_built_op, is_prop, needs_sort, op_in}
+use Rattle.osh_ends.specs.Built.{is_built, is_built_link, is_built_method, is_built_op, is_prop, needs_sort}
 use Rattle.osh_sound.specs.Sound.{MarkFits}
 use Rattle.run_feed.specs.Fed.{IsReady}
 use Rattle.run_feed.proofs.Ports.{may_out}

@@ -1,9 +1,8 @@
 -- Rows that fit.
-use Rattle.std.proofs.Common.{◌≡◌, true, List, [], ◌∷◌, All}
+use Rattle.std.proofs.Common.{List, [], ◌∷◌}
 use Rattle.std.specs.List.{AllByRecursion}
-use Rattle.ds_value.specs.Canonical.{IsShort}
 use Rattle.ds_schema.specs.declared.schema.Field.{Field}
-use Rattle.ds_schema.specs.Schemas.{IsField, row_fits}
+use Rattle.ds_schema.specs.Schemas.{IsField}
 use Rattle.op_base.specs.Columns.{Row}
 use Rattle.flow_files.specs.Lines.{AllFit}
 use Rattle.flow_files.proofs.Rows.{row_is_short}

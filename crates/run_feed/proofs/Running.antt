@@ -1,5 +1,5 @@
 -- What a run over the rows of imports has.
-use Rattle.std.proofs.Common.{◌≡◌, ◌-◌, ◌^◌, ◌<◌, ℕ, false, min, List, [], map, get_or, length, sym, ap, ◌∙◌, subst}
+use Rattle.std.proofs.Common.{◌-◌, ◌^◌, ℕ, false, min, List, [], length, sym, ap, ◌∙◌, subst}
 use Rattle.std.specs.List.{AllByRecursion}
 use Rattle.op_base.specs.Columns.{Row}
 use Rattle.ds_port.specs.FileMap.{FileMap}
@@ -11,7 +11,7 @@ use Rattle.flow_graph.specs.declared.state.State.{State}
 use Rattle.flow_graph.specs.Charts.{Chart, all_links, op_at}
 use Rattle.flow_graph.specs.FlowShape.{IsShape}
 use Rattle.flow_graph.specs.Operators.{Op}
-use Rattle.flow_graph.specs.Runs.{Lists, Means}
+use Rattle.flow_graph.specs.Runs.{Means}
 use Rattle.flow_rules.specs.declared.verdict.Verdict.TheVariants.{Accepted}
 use Rattle.flow_rules.specs.Verdicts.{IsVerdict, nodes_of}
 use Rattle.flow_shape.specs.Refusals.{fields_at}

@@ -1,5 +1,5 @@
 -- What is read suits a run.
-use Rattle.std.proofs.Common.{◌≡◌, ◌+◌, ◌<◌, ◌≤◌, ◌==◌, ◌&&◌, ℕ, zero, suc, Bool, true, false, cond, List, [], ◌∷◌, ◌++◌, All, map, flat_map, get_or, length, take, inl, inr, refl, sym, ap, ◌∙◌, subst, arith}
+use Rattle.std.proofs.Common.{◌≡◌, ◌<◌, ◌≤◌, ◌&&◌, ℕ, zero, suc, Bool, true, false, List, [], ◌∷◌, All, map, flat_map, get_or, length, take, inl, inr, refl, sym, ap, ◌∙◌, subst, arith}
 use Rattle.std.specs.Prelude.{Option}
 use Rattle.flow_files.specs.declared.tally.Tally.{Tally}
 use Rattle.std.specs.List.{list_all, AllByRecursion}
@@ -12,7 +12,6 @@ use Rattle.ds_schema.specs.Schemas.{row_fits}
 use Rattle.ds_port.specs.FileMap.{FileMap}
 use Rattle.ds_text.specs.declared.form.Form.{Form}
 use Rattle.ds_text.proofs.RecordProofs.{in_fits}
-use Rattle.op_base.specs.declared.fault.Fault.{Fault}
 use Rattle.op_base.specs.Columns.{IsIn, Row}
 use Rattle.op_base.specs.Keyed.{get_keys}
 use Rattle.op_base.specs.Meanings.{Line, good, bad, line_rows}
@@ -26,13 +25,12 @@ use Rattle.flow_graph.specs.FlowShape.{IsShape}
 use Rattle.flow_graph.specs.Operators.{Op, by_row, import, remdup, result, tsort}
 use Rattle.flow_shape.specs.Options.{import_fields, line_fields, output_fields}
 use Rattle.flow_shape.specs.Ports.{may_have_out}
-use Rattle.flow_shape.specs.Refusals.{IsShapeOf, fields_at, inputs_at}
+use Rattle.flow_shape.specs.Refusals.{IsShapeOf, inputs_at}
 use Rattle.flow_shape.proofs.Orders.{and_parts}
 use Rattle.flow_sound.specs.Kinds.{AreOfKinds, IsOfKind, LineFits}
 use Rattle.flow_sound.proofs.Fitting.{fits_long, given_there}
-use Rattle.flow_sound.proofs.Keeping.{one_link}
 use Rattle.flow_sound.proofs.Order.{is_from, leaves_it}
-use Rattle.list_run.specs.Runnable.{IsRow, OpIs, OpsAre}
+use Rattle.list_run.specs.Runnable.{IsRow, OpIs}
 use Rattle.osh_ends.specs.Built.{has_commas, is_built, is_built_field, is_built_op}
 use Rattle.osh_ends.specs.FlowFiles.{IsOp, fields_of, form, input_of}
 use Rattle.run_feed.specs.Sources.{CanFeed, FitsFields, ReadTo, RowsSuit, Sourced, on_output, rows_on, rows_read}

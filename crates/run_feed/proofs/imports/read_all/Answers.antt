@@ -1,9 +1,8 @@
-use Rattle.std.proofs.Common.{Err, ◌≡◌, ◌<◌, ◌∙◌, ◌++◌, ◌∷◌, [], None, ap, sym, subst, refl, arith, get_or, length, length-append, ℕ, ◌+◌, List}
+use Rattle.std.proofs.Common.{Err, ◌≡◌, ◌<◌, ◌∙◌, ◌∷◌, [], None, ap, sym, subst, refl, arith, get_or, length, length-append, ℕ, ◌+◌, List}
 use Rattle.std.proofs.lemmas.Result.{err_from_is_err_and}
-use Rattle.flow_graph.specs.Charts.{no_op, op_at}
+use Rattle.flow_graph.specs.Charts.{op_at}
 use Rattle.flow_graph.specs.declared.flow.Flow.{Flow}
 use Rattle.flow_graph.specs.declared.flow.OpSpec.{OpSpec}
-use Rattle.osh_ends.specs.Built.{is_built_op}
 use Rattle.osh_ends.specs.FlowFiles.{missing_of}
 use Rattle.run_feed.specs.Sources.{ReadTo, ReadsFile, RowsSuit}
 use Rattle.run_feed.specs.declared.fault.FeedFault.TheVariants.{Absent}
