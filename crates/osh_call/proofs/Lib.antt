@@ -1,0 +1,3 @@
+pub mod BuiltFlows
+pub mod Judged
+pub mod Serving

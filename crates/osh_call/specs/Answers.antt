@@ -1,10 +1,13 @@
 -- How the code's answers stand for the ends of a call, and what the stages of a call leave to the ones behind them.
-use Rattle.std.specs.Prelude.{◌≡◌, ◌⊎◌, ℕ, Bool, List, [], take}
+use Rattle.std.specs.Prelude.{◌≡◌, ◌⊎◌, ℕ, Bool, IsTrue, List, [], ◌++◌, take}
 use Rattle.ds_port.specs.FileMap.{FileMap}
+use Rattle.flow_graph.specs.Charts.{Chart}
+use Rattle.flow_rules.specs.declared.verdict.Verdict.{Verdict}
+use Rattle.osh_ends.specs.Reports.{verdict_report}
 use Rattle.osh_call.specs.declared.answer.Answer.{Answer}
 use Rattle.osh_call.specs.declared.answer.Answer.TheVariants as answer
-use Rattle.osh_ends.specs.Ends.{End, usage, unbuilt, bad_flow, bad_config, bad_shape, absent, refused, checked, mismatch, crowded, done, faulty}
-use Rattle.osh_ends.specs.Leaves.{Leaves, with_files, outputs, printed}
+use Rattle.osh_ends.specs.Ends.{End, usage, unbuilt, bad_flow, bad_config, bad_shape, absent, refused, checked, mismatch, crowded, done, faulty, verdict_end}
+use Rattle.osh_ends.specs.Leaves.{Leaves, Broke, with_files, outputs, printed}
 
 -- the answer is that of the end
 abbrev pub Answers : Answer → End → Type 0
@@ -40,10 +43,16 @@ Halts Comes answer.Faulty = ⊥
 Halts Comes answer.Device = Unit {0}
 Halts Comes answer.Memory = Unit {0}
 
--- a stage stops the call, whatever would have come behind it
-abbrev pub Stops : {V : Type 0} → ((V → End → Type 0) → End → Type 0) → Answer → Type 0
-Stops {V} Stage answer = (next : V → End → Type 0) → Halts (Stage next) answer
+-- a call that comes to such an end was served with this answer: it left what the end leaves, or a device failed, or memory was wanting and nothing is left
+abbrev pub Serves : (End → Type 0) → FileMap → FileMap → Bool → List ℕ → List ℕ → (files_rose out_rose : Type 0) → Answer → Type 0
+Serves Comes old new tells out_old out_new files_rose out_rose a =
+    ((end : End) × Comes end × Answers a end × Leaves (with_files old (outputs end)) new tells out_old out_new (printed end))
+    ⊎ (((a ≡ answer.Device) × Broke Comes old new tells out_old out_new files_rose out_rose)
+    ⊎ ((a ≡ answer.Memory) × Leaves old new tells out_old out_new []))
 
--- a stage gives the next one this value: what comes of it there comes of the call
-abbrev pub Passes : {V : Type 0} → ((V → End → Type 0) → End → Type 0) → V → Type 1
-Passes {V} Stage value = (next : V → End → Type 0) (end : End) → next value end → Stage next end
+-- the report of a verdict is on out, or a part of it where out failed
+abbrev pub Tells : Chart → Verdict → Bool → List ℕ → List ℕ → (out_rose : Type 0) → Answer → Type 0
+Tells c v tells out_old out_new out_rose a =
+    (Answers a (verdict_end c v) × (IsTrue tells → out_new ≡ out_old ++ verdict_report c v))
+    ⊎ (((a ≡ answer.Device) × out_rose × ((n : ℕ) × (IsTrue tells → out_new ≡ out_old ++ take n (verdict_report c v))))
+    ⊎ ((a ≡ answer.Memory) × (out_new ≡ out_old)))

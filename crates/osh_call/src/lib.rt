@@ -2,4 +2,7 @@
 #![tactic(auto)]
 
 mod answer;
+mod check;
+mod checking;
+mod say;
 mod stages;

@@ -2,12 +2,9 @@
 
 ghost use Rattle.std.specs.Prelude.{◌≡◌, ◌⊎◌, IsTrue, IfOk, IfErr};
 ghost use Rattle.ds_port.specs.Causes.{HasCause};
-ghost use Rattle.osh_call.specs.Answers.{Stops};
-ghost use Rattle.osh_ends.specs.Ends.{FlowIn, NodesIn};
-ghost use Rattle.osh_call.specs.Stages.{FlowFile, NodesFile, IsFlowIn, AreNodesIn, Has};
+ghost use Rattle.osh_call.specs.Stages.{IsFlowIn, IsRead, Has, FlowInStops, FileStops};
 
 use crate::answer::Answer;
-use config_read::{ConfigFault, default_nodes, read_config};
 use ds_port::Files;
 use ds_value::Name;
 use flow_graph::Flow;
@@ -29,8 +26,7 @@ pub fn absent(name: &Name) -> Answer
 /// The flow that a text spells.
 fn flow_in(alloc: Global, text: &[u8]) -> Result<Flow, Answer>
     ensures flow { IfOk result (IsFlowIn text.now) }
-    ensures stops { IfErr result (Stops (FlowIn text.now)) }
-    ensures device { result ≡ Err Answer.Device → ⊥ }
+    ensures stops { IfErr result (FlowInStops text.now) }
 {
     match read_flow(alloc, text) {
         Ok(flow) => {
@@ -45,23 +41,11 @@ fn flow_in(alloc: Global, text: &[u8]) -> Result<Flow, Answer>
     }
 }
 
-/// The nodes in the default pool of the configuration that a text spells.
-fn nodes_in(alloc: Global, text: &[u8]) -> Result<u32, Answer>
-    ensures nodes { IfOk result (AreNodesIn text.now) }
-    ensures stops { IfErr result (Stops (NodesIn text.now)) }
-    ensures device { result ≡ Err Answer.Device → ⊥ }
-{
-    match read_config(alloc, text) {
-        Ok(config) => Ok(default_nodes(&config)),
-        Err(ConfigFault::Bad { at, why }) => Err(Answer::BadConfig { at, why }),
-        Err(ConfigFault::Memory) => Err(Answer::Memory),
-    }
-}
-
 /// The flow in a file.
 pub fn flow_at<F: Files>(alloc: Global, files: &mut F, name: &Name) -> Result<Flow, Answer>
+    ensures read { IfOk result IsRead }
     ensures found { IsTrue F.tells → IfOk result (λ flow. Has (F.holds files.old) name.now (λ text. IsFlowIn text flow)) }
-    ensures stops { IsTrue F.tells → IfErr result (Stops (FlowFile (F.holds files.old) name.now)) }
+    ensures stops { IsTrue F.tells → IfErr result (FileStops (F.holds files.old) name.now FlowInStops) }
     ensures same { F.holds files.new ≡ F.holds files.old }
     ensures cause { HasCause (F.faults files.old) (F.faults files.new) (result ≡ Err Answer.Device) }
 {
@@ -70,22 +54,6 @@ pub fn flow_at<F: Files>(alloc: Global, files: &mut F, name: &Name) -> Result<Fl
         Err(LoadFault::NotFound) => Err(absent(name)),
         Err(LoadFault::Failed) => Err(Answer::Device),
         // What is too long to be read whole is too long for memory.
-        Err(LoadFault::Refused) => Err(Answer::Memory),
-        Err(LoadFault::TooLong) => Err(Answer::Memory),
-    }
-}
-
-/// The nodes in the default pool of the configuration in a file.
-pub fn nodes_at<F: Files>(alloc: Global, files: &mut F, name: &Name) -> Result<u32, Answer>
-    ensures found { IsTrue F.tells → IfOk result (λ nodes. Has (F.holds files.old) name.now (λ text. AreNodesIn text nodes)) }
-    ensures stops { IsTrue F.tells → IfErr result (Stops (NodesFile (F.holds files.old) name.now)) }
-    ensures same { F.holds files.new ≡ F.holds files.old }
-    ensures cause { HasCause (F.faults files.old) (F.faults files.new) (result ≡ Err Answer.Device) }
-{
-    match load(alloc, files, name) {
-        Ok(text) => nodes_in(alloc, text.as_slice()),
-        Err(LoadFault::NotFound) => Err(absent(name)),
-        Err(LoadFault::Failed) => Err(Answer::Device),
         Err(LoadFault::Refused) => Err(Answer::Memory),
         Err(LoadFault::TooLong) => Err(Answer::Memory),
     }

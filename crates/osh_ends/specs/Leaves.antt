@@ -111,18 +111,18 @@ pub record Ended (words : List (List ℕ)) (old new : FileMap) (tells : Bool) (o
   pub err_is : err_text ≡ line end
   pub status_is : status ≡ end_status end
 
--- A device failed: before anything was left; or when some of the files were made, in their order; or out failed, when a part of what is printed was out.
-abbrev pub Broke : List (List ℕ) → FileMap → FileMap → Bool → List ℕ → List ℕ → (files_rose out_rose : Type 0) → Type 0
-Broke words old new tells out_old out_new files_rose out_rose =
+-- A device failed: before anything was left; or when some of the files were made, the first ones; or out failed, when a part of what is printed was out.
+abbrev pub Broke : (End → Type 0) → FileMap → FileMap → Bool → List ℕ → List ℕ → (files_rose out_rose : Type 0) → Type 0
+Broke Comes old new tells out_old out_new files_rose out_rose =
     (Leaves old new tells out_old out_new [] × (files_rose ⊎ out_rose))
-    ⊎ (((end : End) × (k : ℕ) × ComesTo words old end × Leaves (with_files old (take k (outputs end))) new tells out_old out_new [] × files_rose)
-    ⊎ ((end : End) × (n : ℕ) × ComesTo words old end × Leaves (with_files old (outputs end)) new tells out_old out_new (take n (printed end)) × out_rose))
+    ⊎ (((end : End) × (made : List NamedFile) × (behind : List NamedFile) × Comes end × (outputs end ≡ made ++ behind) × Leaves (with_files old made) new tells out_old out_new [] × files_rose)
+    ⊎ ((end : End) × (n : ℕ) × Comes end × Leaves (with_files old (outputs end)) new tells out_old out_new (take n (printed end)) × out_rose))
 
 -- A whole call: it came to its end, or a device failed, or memory was wanting and nothing is left.
 abbrev pub Runs : List (List ℕ) → FileMap → FileMap → Bool → List ℕ → List ℕ → (files_rose out_rose : Type 0) → List ℕ → ℕ → Type 0
 Runs words old new tells out_old out_new files_rose out_rose err_text status =
     Ended words old new tells out_old out_new err_text status
-    ⊎ (((status ≡ 10) × (err_text ≡ codes "osh: device\n") × Broke words old new tells out_old out_new files_rose out_rose)
+    ⊎ (((status ≡ 10) × (err_text ≡ codes "osh: device\n") × Broke (ComesTo words old) old new tells out_old out_new files_rose out_rose)
     ⊎ ((status ≡ 12) × (err_text ≡ codes "osh: memory\n") × Leaves old new tells out_old out_new []))
 
 -- the status is that of what the call comes to, or 10 or 12

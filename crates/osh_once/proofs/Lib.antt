@@ -1,0 +1,4 @@
+pub mod Stages
+pub mod Orders
+pub mod Meant
+pub mod Commands
