@@ -1,6 +1,6 @@
 //! The rows of the files that imports read.
 
-ghost use Rattle.std.specs.Prelude.{◌≡◌, ◌<◌, ℕ, List, true, false, [], get_or, length, IsTrue, IfOk, Err, None};
+ghost use Rattle.std.specs.Prelude.{◌≡◌, ◌<◌, ℕ, List, true, [], get_or, length, IsTrue, IfOk, Err, None};
 ghost use Rattle.ds_port.specs.Causes.{HasCause};
 ghost use Rattle.ds_port.specs.FileMap.{file_at};
 ghost use Rattle.ds_text.specs.Forms.{FormFits};

@@ -1,6 +1,6 @@
 //! Rows by link.
 
-ghost use Rattle.std.specs.Prelude.{◌≡◌, ◌<◌, ◌==◌, ℕ, [], cond, get_or, length, set, IfOk};
+ghost use Rattle.std.specs.Prelude.{◌≡◌, ◌<◌, ◌==◌, ℕ, [], cond, get_or, length, IfOk};
 ghost use Rattle.flow_graph.specs.Charts.{link_at};
 ghost use Rattle.run_feed.specs.Sources.{on_output, rows_on};
 
