@@ -6,6 +6,5 @@ mod check;
 mod checking;
 mod say;
 mod stages;
-
 #[cfg(test)]
 mod tests;

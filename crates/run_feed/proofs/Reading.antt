@@ -89,8 +89,8 @@ faults_more c ops n op =
     ap (flat_map (faults_read c (with_op ops n op))) (range_more 0 n ∙ ap (λ k. range_with_len 0 n ++ k ∷ []) (let z : 0 + n ≡ n = omega arith in z))
     ∙ flat_more (faults_read c (with_op ops n op)) (range_with_len 0 n) n
     ∙ ap₂ (λ a b. a ++ b)
-        (same_flat (faults_read c (with_op ops n op)) (faults_read c ops) (range_with_len 0 n) (λ o i. ap (λ p. if_import (op_at c o).kind (faults p [])) (with_old ops n op o (below_range n o i))))
-        (ap (λ p. if_import (op_at c n).kind (faults p [])) (with_new ops n op))
+    (same_flat (faults_read c (with_op ops n op)) (faults_read c ops) (range_with_len 0 n) (λ o i. ap (λ p. if_import (op_at c o).kind (faults p [])) (with_old ops n op o (below_range n o i))))
+    (ap (λ p. if_import (op_at c n).kind (faults p [])) (with_new ops n op))
 
 pub read_more : (files : FileMap) (c : Chart) (n : ℕ) (rows : List (List Row)) (x : List Row) (old mid new : Tally) → is_built_op (op_at c n).kind ≡ true → length rows ≡ n → ReadTo files c n rows old mid → ReadsFile files n (op_at c n).kind x mid new → ReadTo files c (n + 1) (rows ++ x ∷ []) old new
 read_more files c n rows x old mid new b len r h =

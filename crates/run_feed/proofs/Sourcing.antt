@@ -170,9 +170,10 @@ op_is : (files : FileMap) (c : Chart) (sources : List (List Row)) (o : ℕ) (k :
 op_is files c sources o (kind.Import file schema delim fixed true) op rows b h e on = absurd (no_reject file schema delim fixed b)
 op_is files c sources o (kind.Import file schema delim fixed false) op rows b h e on =
     let lines = h.1 in
-    let is = h.4 in
-    ((lines, false, beyond o h.0, is),
-    λ l i. ap (λ p. result p (link_at c l).out []) is ∙ on_lines (link_at c l).out lines ∙ ap (on_output (link_at c l).out) (sym (e ∙ ap (λ p. result p 0 []) is)) ∙ sym (on l i))
+    let is = h.4 in (
+      (lines, false, beyond o h.0, is),
+      λ l i. ap (λ p. result p (link_at c l).out []) is ∙ on_lines (link_at c l).out lines ∙ ap (on_output (link_at c l).out) (sym (e ∙ ap (λ p. result p 0 []) is)) ∙ sym (on l i),
+    )
 op_is files c sources o (kind.Export file delim fixed) op rows b h e on = (export_faults o (form delim fixed) (fields_of c (input_of c o)), h)
 op_is files c sources o kind.Copy op rows b h e on = h
 op_is files c sources o (kind.Tsort key) op rows b h e on = h
