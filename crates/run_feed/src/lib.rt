@@ -3,10 +3,10 @@
 #![tactic(auto)]
 
 mod fault;
-mod missing;
 mod feeding;
 mod imports;
 mod links;
+mod missing;
 
 pub use fault::{FeedFault, ProbeFault};
 pub use feeding::feed;
