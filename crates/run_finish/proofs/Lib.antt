@@ -1,0 +1,4 @@
+pub mod Closing
+pub mod Exporting
+pub mod Reporting
+pub mod Writing

@@ -1,0 +1,4 @@
+pub mod Endings
+pub mod Finished
+pub mod Reported
+pub mod Written
