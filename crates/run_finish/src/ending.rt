@@ -108,7 +108,9 @@ pub fn refuse<F: Files, O: Sink>(
     ensures out_later { O.faults out.old ≤ O.faults out.new }
 {
     discard_all(files, outputs);
-    let Ok(text) = fault_text(alloc, shaped, verdict, choices, nodes, players, faults, least) else {
+    let Ok(text) = fault_text(
+        alloc, shaped, verdict, choices, nodes, players, faults, least,
+    ) else {
         return Ending::Memory;
     };
     match print(out, text.as_slice()) {

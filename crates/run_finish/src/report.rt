@@ -51,12 +51,7 @@ fn count_at(counts: &[u64], link: usize) -> u64
 }
 
 /// A line for each link.
-fn put_counts(
-    alloc: Global,
-    text: &mut Bytes,
-    links: usize,
-    counts: &[u64],
-) -> Result<(), NoMemory>
+fn put_counts(alloc: Global, text: &mut Bytes, links: usize, counts: &[u64]) -> Result<(), NoMemory>
     requires { links < 2 ^ 32 }
     ensures { OnOk result (text.new ≡ text.old ++ flat_map (λ l. count_line l (get_or counts.now l 0)) (range_with_len 0 links)) }
 {
