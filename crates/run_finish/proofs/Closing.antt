@@ -1,5 +1,5 @@
 -- The ends of runs.
-use Rattle.std.proofs.Common.{◌≡◌, ◌≢◌, inl, inr, ℕ, Bool, false, List, [], ◌∷◌, ◌++◌, length, take, refl, sym, ap, subst, ◌∙◌, append-nil, arith, flat_map, IsTrue, IsPermutation}
+use Rattle.std.proofs.Common.{◌≡◌, ◌≢◌, inl, inr, ℕ, Bool, false, List, [], ◌∷◌, ◌++◌, length, refl, sym, ap, subst, ◌∙◌, append-nil, arith, flat_map, IsPermutation}
 use Rattle.std.specs.Prelude.{◌≤◌, Option, Some, None, Result, Ok, Err, IsErr, true}
 use Rattle.std.specs.Result.{OnErr, is_err}
 use Rattle.std.specs.List.{Contains}
@@ -19,7 +19,7 @@ use Rattle.flow_graph.specs.declared.state.State.{State}
 use Rattle.flow_graph.specs.Charts.{Chart, op_at}
 use Rattle.flow_graph.specs.Runs.{meant_faults}
 use Rattle.flow_rules.specs.Verdicts.{nodes_of}
-use Rattle.flow_outputs.specs.Outputs as made
+use Rattle.flow_outputs.specs.Outputs as outputs
 use Rattle.flow_outputs.specs.Outputs.{MakesSome}
 use Rattle.flow_shape.specs.Refusals.{all_ops}
 use Rattle.flow_sound.specs.Tallies.{faults_read, faults_written, tallied}
@@ -39,25 +39,12 @@ use Rattle.run_finish.proofs.Reporting.{faults_cut}
 
 -- ---- what is made
 
-same_files : (files : FileMap) (fs : List NamedFile) → made.with_files files fs ≡ with_files files fs
+same_files : (files : FileMap) (fs : List NamedFile) → outputs.with_files files fs ≡ with_files files fs
 same_files files [] = refl
 same_files files (f ∷ fs) = same_files (with_file files (f.0) (f.1)) fs
 
-pub all_left : (old new : FileMap) (all : List NamedFile) (tells : Bool) (out_old out_new text : List ℕ) → new ≡ made.with_files old all → (IsTrue tells → out_new ≡ out_old ++ text) → Leaves (with_files old all) new tells out_old out_new text
-all_left old new all tells out_old out_new text e h = record { files_are = e ∙ same_files old all; out = h }
-
-pub nothing_left : (old new : FileMap) (tells : Bool) (out : List ℕ) → new ≡ old → Leaves old new tells out out []
-nothing_left old new tells out e = record { files_are = e; out = λ t. sym (append-nil out) }
-
-taken : (xs ys : List NamedFile) → take (length xs) (xs ++ ys) ≡ xs
-taken [] ys = refl
-taken (x ∷ xs) ys = ap (λ zs. x ∷ zs) (taken xs ys)
-
-pub some_left : (old new : FileMap) (all : List NamedFile) (tells : Bool) (out : List ℕ) → MakesSome old new all → (k : ℕ) × Leaves (with_files old (take k all)) new tells out out []
-some_left old new all tells out m = (length m.made, record {
-  files_are = m.files ∙ same_files old m.made ∙ ap (with_files old) (sym (ap (take (length m.made)) m.all_are ∙ taken m.made m.behind));
-  out = λ t. sym (append-nil out);
-})
+pub some_left : (old new : FileMap) (all : List NamedFile) (tells : Bool) (out : List ℕ) → MakesSome old new all → (made : List NamedFile) × (behind : List NamedFile) × (all ≡ made ++ behind) × Leaves (with_files old made) new tells out out []
+some_left old new all tells out m = (m.made, m.behind, m.all_are, record { files_are = m.files ∙ same_files old m.made; out = λ t. sym (append-nil out) })
 
 pub on_err : {A B : Type 0} (r : Result A B) (P : Type 0) → true ≡ is_err r → OnErr r P → P
 on_err (Ok x) P e h = absurd (cc)
@@ -123,16 +110,16 @@ runs_faulty files c states choices nodes ran old new r least g e =
 
 pub delivered : (old new : FileMap) (c : Chart) (nodes : ℕ) (states : List State) (choices : List Choice) (tells : Bool) (out_old out_new : List ℕ) (files_rose out_rose : Type 0) (all : List NamedFile) (text : List ℕ) (e : Ending)
     → RunsTo old c nodes states choices (done all text) → Delivers old new all tells out_old out_new text files_rose out_rose e → Ends old new c nodes states choices tells out_old out_new files_rose out_rose e
-delivered old new c nodes states choices tells out_old out_new files_rose out_rose all text ending.Done r d = record { end = done all text; runs = r; status_is = refl; leaves = d }
+delivered old new c nodes states choices tells out_old out_new files_rose out_rose all text ending.Done r d = (all, text, r, d)
 delivered old new c nodes states choices tells out_old out_new files_rose out_rose all text ending.Faulty r d = absurd d
-delivered old new c nodes states choices tells out_old out_new files_rose out_rose all text ending.Device r (inl d) = inr (inl (done all text, d.0, r, d.1, d.2))
+delivered old new c nodes states choices tells out_old out_new files_rose out_rose all text ending.Device r (inl d) = inr (inl (done all text, d.0, d.1, r, d.2, d.3, d.4))
 delivered old new c nodes states choices tells out_old out_new files_rose out_rose all text ending.Device r (inr d) = inr (inr (done all text, d.0, r, d.1, d.2))
 delivered old new c nodes states choices tells out_old out_new files_rose out_rose all text ending.Memory r d = d
 
 pub refused : (old new : FileMap) (c : Chart) (nodes : ℕ) (states : List State) (choices : List Choice) (tells : Bool) (out_old out_new : List ℕ) (files_rose out_rose : Type 0) (text : List ℕ) (e : Ending)
     → RunsTo old c nodes states choices (faulty text) → Refuses old new tells out_old out_new text out_rose e → Ends old new c nodes states choices tells out_old out_new files_rose out_rose e
 refused old new c nodes states choices tells out_old out_new files_rose out_rose text ending.Done r d = absurd d
-refused old new c nodes states choices tells out_old out_new files_rose out_rose text ending.Faulty r d = record { end = faulty text; runs = r; status_is = refl; leaves = d }
+refused old new c nodes states choices tells out_old out_new files_rose out_rose text ending.Faulty r d = (text, r, d)
 refused old new c nodes states choices tells out_old out_new files_rose out_rose text ending.Device r d = inr (inr (faulty text, d.0, r, d.1, d.2))
 refused old new c nodes states choices tells out_old out_new files_rose out_rose text ending.Memory r d = d
 
@@ -146,7 +133,7 @@ rose_later a b c l r = grind (arith, l, r)
 widened : (old new : FileMap) (all : List NamedFile) (tells : Bool) (out_old out_new text : List ℕ) (mid_rose files_rose out_rose : Type 0) (e : Ending) → (mid_rose → files_rose) → Delivers old new all tells out_old out_new text mid_rose out_rose e → Delivers old new all tells out_old out_new text files_rose out_rose e
 widened old new all tells out_old out_new text mid_rose files_rose out_rose ending.Done f d = d
 widened old new all tells out_old out_new text mid_rose files_rose out_rose ending.Faulty f d = d
-widened old new all tells out_old out_new text mid_rose files_rose out_rose ending.Device f (inl d) = inl (d.0, d.1, f d.2)
+widened old new all tells out_old out_new text mid_rose files_rose out_rose ending.Device f (inl d) = inl (d.0, d.1, d.2, d.3, f d.4)
 widened old new all tells out_old out_new text mid_rose files_rose out_rose ending.Device f (inr d) = inr d
 widened old new all tells out_old out_new text mid_rose files_rose out_rose ending.Memory f d = d
 

@@ -1,5 +1,5 @@
 -- The end of a run whose lists are done.
-use Rattle.std.specs.Prelude.{◌≡◌, ◌<◌, ◌⊎◌, ℕ, Bool, false, List, [], length, take}
+use Rattle.std.specs.Prelude.{◌≡◌, ◌<◌, ℕ, Bool, false, List, [], length}
 use Rattle.std.specs.List.{flat_map}
 use Rattle.ds_port.specs.FileMap.{FileMap}
 use Rattle.op_base.specs.Columns.{Row}
@@ -15,9 +15,9 @@ use Rattle.flow_sound.specs.Kinds.{IsExport, first_into}
 use Rattle.flow_sound.specs.Promise.{AcceptedRun}
 use Rattle.flow_sound.specs.Tallies.{faults_read}
 use Rattle.list_run.specs.declared.ran.Ran.{Ran}
-use Rattle.osh_ends.specs.Ends.{End, MeetsGrades, RunsTo, end_status}
+use Rattle.osh_ends.specs.Ends.{MeetsGrades, NamedFile, RunsTo, done, faulty}
 use Rattle.osh_ends.specs.FlowFiles.{IsMeaning}
-use Rattle.osh_ends.specs.Leaves.{Leaves, outputs, printed, with_files}
+use Rattle.osh_ends.specs.Leaves.{Broke, Leaves, with_files}
 use Rattle.run_finish.specs.declared.ending.Ending.{Ending}
 use Rattle.run_finish.specs.declared.ending.Ending.TheVariants as ending
 use Rattle.run_finish.specs.Reported.{AreCounts}
@@ -35,22 +35,11 @@ pub record IsRun (files : FileMap) (c : Chart) (states : List State) (choices : 
   pub grades : MeetsGrades c states whole run.got
   pub tally : Tallies (flat_map (faults_read c ops) (all_ops c)) found
 
--- the run came to an end with this status, and all of that is left
-pub record Reaches (old new : FileMap) (c : Chart) (nodes : ℕ) (states : List State) (choices : List Choice) (tells : Bool) (out_old out_new : List ℕ) (status : ℕ) : Type 0 where
-  pub end : End
-  pub runs : RunsTo old c nodes states choices end
-  pub status_is : end_status end ≡ status
-  pub leaves : Leaves (with_files old (outputs end)) new tells out_old out_new (printed end)
-
--- a device failed before anything was left; or when some of the files were made, in their order; or out failed, when all were made and a part of what is printed was out
-abbrev pub Breaks : (old new : FileMap) → Chart → ℕ → List State → List Choice → (tells : Bool) → (out_old out_new : List ℕ) → (files_rose out_rose : Type 0) → Type 0
-Breaks old new c nodes states choices tells out_old out_new files_rose out_rose =
-    (Leaves old new tells out_old out_new [] × files_rose)
-    ⊎ (((end : End) × (k : ℕ) × RunsTo old c nodes states choices end × Leaves (with_files old (take k (outputs end))) new tells out_old out_new [] × files_rose)
-    ⊎ ((end : End) × (n : ℕ) × RunsTo old c nodes states choices end × Leaves (with_files old (outputs end)) new tells out_old out_new (take n (printed end)) × out_rose))
-
+-- the run ended: its files and its report are left, or the report of its faults; or a device failed on the way, or memory was wanting, and nothing is left
 abbrev pub Ends : (old new : FileMap) → Chart → ℕ → List State → List Choice → (tells : Bool) → (out_old out_new : List ℕ) → (files_rose out_rose : Type 0) → Ending → Type 0
-Ends old new c nodes states choices tells out_old out_new files_rose out_rose ending.Done = Reaches old new c nodes states choices tells out_old out_new 0
-Ends old new c nodes states choices tells out_old out_new files_rose out_rose ending.Faulty = Reaches old new c nodes states choices tells out_old out_new 9
-Ends old new c nodes states choices tells out_old out_new files_rose out_rose ending.Device = Breaks old new c nodes states choices tells out_old out_new files_rose out_rose
+Ends old new c nodes states choices tells out_old out_new files_rose out_rose ending.Done =
+    (all : List NamedFile) × (text : List ℕ) × RunsTo old c nodes states choices (done all text) × Leaves (with_files old all) new tells out_old out_new text
+Ends old new c nodes states choices tells out_old out_new files_rose out_rose ending.Faulty =
+    (text : List ℕ) × RunsTo old c nodes states choices (faulty text) × Leaves old new tells out_old out_new text
+Ends old new c nodes states choices tells out_old out_new files_rose out_rose ending.Device = Broke (RunsTo old c nodes states choices) old new tells out_old out_new files_rose out_rose
 Ends old new c nodes states choices tells out_old out_new files_rose out_rose ending.Memory = Leaves old new tells out_old out_new []
