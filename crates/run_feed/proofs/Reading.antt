@@ -1,0 +1,122 @@
+-- Operators whose files are read one after another.
+use Rattle.std.proofs.Common.{◌≡◌, ◌+◌, ◌<◌, ◌==◌, ◌&&◌, not, ℕ, zero, suc, Bool, true, false, cond, List, [], ◌∷◌, ◌++◌, map, flat_map, get_or, length, inl, inr, append_assoc, refl, sym, ap, ap₂, ◌∙◌, subst, arith}
+use Rattle.std.specs.List.{list_all, range_with_len, AllByRecursion}
+use Rattle.std.proofs.lemmas.Bool.{eqb-true}
+use Rattle.std.proofs.lemmas.Bool.Decides.{nat_tests}
+use Rattle.std.proofs.lemmas.List.{append-nil, get_or_append_left}
+use Rattle.std.proofs.Math.Seq.{get_or-append_seam}
+use Rattle.ds_schema.specs.declared.key.Key.{Key}
+use Rattle.ds_schema.specs.declared.schema.Field.{Field}
+use Rattle.ds_port.specs.FileMap.{FileMap}
+use Rattle.op_base.specs.declared.fault.Fault.{Fault}
+use Rattle.op_base.specs.Columns.{IsIn, Row}
+use Rattle.op_base.specs.Keyed.{get_keys}
+use Rattle.op_base.specs.RowOperators.{copy_rule, sink_rule}
+use Rattle.op_base.proofs.ColumnLaws.{in_bounds}
+use Rattle.flow_files.specs.declared.tally.Tally.{Tally}
+use Rattle.flow_files.specs.Lines.{beyond}
+use Rattle.flow_files.specs.Tallies.{Grows}
+use Rattle.flow_files.specs.Texts.{export_faults}
+use Rattle.flow_files.proofs.Growing.{further, same}
+use Rattle.flow_graph.specs.declared.flow.OpSpec.{OpSpec}
+use Rattle.flow_graph.specs.declared.op_kind.OpKind.{OpKind}
+use Rattle.flow_graph.specs.declared.op_kind.OpKind.TheVariants as kind
+use Rattle.flow_graph.specs.Charts.{Chart, keys_at, no_op, op_at}
+use Rattle.flow_graph.specs.Operators.{Op, by_row, faults, import, remdup, tsort}
+use Rattle.flow_score.proofs.Ranges.{range_more}
+use Rattle.flow_shape.proofs.Orders.{and_parts}
+use Rattle.flow_sound.specs.Tallies.{faults_read, if_import}
+use Rattle.flow_sound.proofs.Members.{below_range}
+use Rattle.osh_ends.specs.Built.{has_commas, is_built_field, is_built_op}
+use Rattle.osh_ends.specs.FlowFiles.{IsOp, fields_of, form, input_of}
+use Rattle.run_feed.specs.Sources.{ReadTo, ReadsFile, RowsSuit, rows_read}
+
+pub at_item : (ops : List OpSpec) (i : ℕ) (x : OpSpec) → i < length ops → x ≡ get_or ops i x → x ≡ get_or ops i no_op
+at_item [] i x h e = absurd (omega arith)
+at_item (op ∷ ops) zero x h e = e
+at_item (op ∷ ops) (suc i) x h e = at_item ops i x (omega arith) e
+
+-- an operator whose file was read
+abbrev IsRead : FileMap → Chart → ℕ → OpKind → List Row → Tally → Tally → Type 0
+IsRead files c o k rows old new = (op : Op) × IsOp files c o k op × (rows ≡ rows_read k op) × Grows old new (if_import k (faults op []))
+
+is_read : (files : FileMap) (c : Chart) (o : ℕ) (k : OpKind) (rows : List Row) (old new : Tally) → is_built_op k ≡ true → ReadsFile files o k rows old new → IsRead files c o k rows old new
+is_read files c o (kind.Import file schema delim fixed true) rows old new b h =
+    let e = (and_parts (has_commas delim fixed) false (and_parts (list_all is_built_field schema) (has_commas delim fixed && false) b).1).1 in cc
+is_read files c o (kind.Import file schema delim fixed false) rows old new b h =
+    let i = h.2 in (import i.lines false (beyond o h.0), (h.0, i.lines, h.1, i.are, refl), i.rows_are, i.faults)
+is_read files c o (kind.Export file delim fixed) rows old new b h = (by_row (sink_rule (export_faults o (form delim fixed) (fields_of c (input_of c o)))), refl, h.0, h.1)
+is_read files c o kind.Copy rows old new b h = (by_row copy_rule, refl, h.0, h.1)
+is_read files c o (kind.Tsort key) rows old new b h = (tsort (get_keys (keys_at c o) 0), refl, h.0, h.1)
+is_read files c o (kind.Remdup key last) rows old new b h = (remdup last (get_keys (keys_at c o) 0), refl, h.0, h.1)
+is_read files c o k rows old new b h = cc
+
+-- ---- one operator more
+
+with_op : (ℕ → Op) → ℕ → Op → ℕ → Op
+with_op ops n op o = cond (o == n) op (ops o)
+
+itself : (n : ℕ) → (n == n) ≡ true
+itself n = grind (arith, nat_tests)
+
+below_apart : (o n : ℕ) → o < n → (o == n) ≡ false
+below_apart o n h = grind (arith, nat_tests)
+
+with_new : (ops : ℕ → Op) (n : ℕ) (op : Op) → with_op ops n op n ≡ op
+unfolding with_op
+with_new ops n op = ap (λ b. cond b op (ops n)) (itself n)
+
+with_old : (ops : ℕ → Op) (n : ℕ) (op : Op) (o : ℕ) → o < n → with_op ops n op o ≡ ops o
+unfolding with_op
+with_old ops n op o h = ap (λ b. cond b op (ops o)) (below_apart o n h)
+
+pub below_next : (P : ℕ → Type 0) (n : ℕ) → ((o : ℕ) → o < n → P o) → P n → (o : ℕ) → o < n + 1 → P o
+below_next P n old new o h = go (o == n) refl
+  where
+    go : (b : Bool) → (o == n) ≡ b → P o
+    go true e = subst P (sym (eqb-true o n e)) new
+    go false e = old o (apart e)
+      where
+        apart : (o == n) ≡ false → o < n
+        apart f = grind (arith, nat_tests)
+
+same_flat : {Y : Type 0} (f g : ℕ → List Y) (ls : List ℕ) → ((l : ℕ) → IsIn l ls → f l ≡ g l) → flat_map f ls ≡ flat_map g ls
+same_flat f g [] h = refl
+same_flat f g (l ∷ ls) h = ap₂ (λ a b. a ++ b) (h l (inl refl)) (same_flat f g ls (λ k i. h k (inr i)))
+
+flat_more : {Y : Type 0} (f : ℕ → List Y) (ls : List ℕ) (n : ℕ) → flat_map f (ls ++ n ∷ []) ≡ flat_map f ls ++ f n
+flat_more f [] n = append-nil (f n)
+flat_more f (l ∷ ls) n = ap (λ a. f l ++ a) (flat_more f ls n) ∙ sym (append_assoc (f l) (flat_map f ls) (f n))
+
+faults_more : (c : Chart) (ops : ℕ → Op) (n : ℕ) (op : Op) → flat_map (faults_read c (with_op ops n op)) (range_with_len 0 (suc n)) ≡ flat_map (faults_read c ops) (range_with_len 0 n) ++ if_import (op_at c n).kind (faults op [])
+faults_more c ops n op =
+    ap (flat_map (faults_read c (with_op ops n op))) (range_more 0 n ∙ ap (λ k. range_with_len 0 n ++ k ∷ []) (let z : 0 + n ≡ n = omega arith in z))
+    ∙ flat_more (faults_read c (with_op ops n op)) (range_with_len 0 n) n
+    ∙ ap₂ (λ a b. a ++ b)
+        (same_flat (faults_read c (with_op ops n op)) (faults_read c ops) (range_with_len 0 n) (λ o i. ap (λ p. if_import (op_at c o).kind (faults p [])) (with_old ops n op o (below_range n o i))))
+        (ap (λ p. if_import (op_at c n).kind (faults p [])) (with_new ops n op))
+
+pub read_more : (files : FileMap) (c : Chart) (n : ℕ) (rows : List (List Row)) (x : List Row) (old mid new : Tally) → is_built_op (op_at c n).kind ≡ true → length rows ≡ n → ReadTo files c n rows old mid → ReadsFile files n (op_at c n).kind x mid new → ReadTo files c (n + 1) (rows ++ x ∷ []) old new
+read_more files c n rows x old mid new b len r h =
+    let one = is_read files c n (op_at c n).kind x mid new b h in
+    let op = one.0 in
+    let ops = with_op r.ops n op in
+    record {
+      ops = ops;
+      are = below_next (λ o. IsOp files c o (op_at c o).kind (with_op r.ops n op o)) n
+          (λ o l. subst (IsOp files c o (op_at c o).kind) (sym (with_old r.ops n op o l)) (r.are o l))
+          (subst (IsOp files c n (op_at c n).kind) (sym (with_new r.ops n op)) one.1);
+      rows_are = below_next (λ o. get_or (rows ++ x ∷ []) o [] ≡ rows_read (op_at c o).kind (with_op r.ops n op o)) n
+          (λ o l. get_or_append_left rows (x ∷ []) [] o (omega (arith, l, len)) ∙ r.rows_are o l ∙ ap (rows_read (op_at c o).kind) (sym (with_old r.ops n op o l)))
+          (ap (λ k. get_or (rows ++ x ∷ []) k []) (sym len) ∙ get_or-append_seam rows x [] [] ∙ one.2 ∙ ap (rows_read (op_at c n).kind) (sym (with_new r.ops n op)));
+      tally = subst (λ k. Grows old new (flat_map (faults_read c (with_op r.ops n op)) (range_with_len 0 k))) (let z : suc n ≡ n + 1 = omega arith in z)
+          (subst (Grows old new) (sym (faults_more c r.ops n op)) (further old mid new (flat_map (faults_read c r.ops) (range_with_len 0 n)) (if_import (op_at c n).kind (faults op [])) r.tally one.3));
+    }
+
+pub suits_more : (c : Chart) (n : ℕ) (rows : List (List Row)) (x : List Row) → length rows ≡ n → ((o : ℕ) → o < n → RowsSuit (op_at c o).kind (get_or rows o [])) → RowsSuit (op_at c n).kind x → (o : ℕ) → o < n + 1 → RowsSuit (op_at c o).kind (get_or (rows ++ x ∷ []) o [])
+suits_more c n rows x len old new = below_next (λ o. RowsSuit (op_at c o).kind (get_or (rows ++ x ∷ []) o [])) n
+    (λ o l. subst (RowsSuit (op_at c o).kind) (sym (get_or_append_left rows (x ∷ []) [] o (omega (arith, l, len)))) (old o l))
+    (subst (RowsSuit (op_at c n).kind) (sym (ap (λ k. get_or (rows ++ x ∷ []) k []) (sym len) ∙ get_or-append_seam rows x [] [])) new)
+
+pub none_read : (files : FileMap) (c : Chart) (rows : List (List Row)) (tally : Tally) → ReadTo files c 0 rows tally tally
+none_read files c rows tally = record { ops = λ o. by_row copy_rule; are = λ o h. absurd (omega arith); rows_are = λ o h. absurd (omega arith); tally = same tally }
