@@ -13,10 +13,10 @@ ghost use Rattle.run_finish.specs.Finished.{Ends};
 
 use ds_port::{Files, Sink};
 use ds_value::Name;
-use run_feed::{FeedFault, feed};
 use flow_files::Tally;
 use flow_graph::{Choice, Shaped};
 use flow_rules::Verdict;
+use run_feed::{FeedFault, feed};
 use run_finish::{Ending, finish_run};
 use std::alloc::Global;
 
