@@ -2,9 +2,16 @@
 #![tactic(auto)]
 
 mod answer;
-mod check;
+mod err_line;
 mod checking;
-mod say;
 mod stages;
+mod telling;
+
+pub use answer::Answer;
+pub use telling::{check, tell};
+pub use checking::{judged, shaped};
+pub use err_line::{say, status};
+pub use stages::{absent, flow_at, nodes_at};
+
 #[cfg(test)]
 mod tests;

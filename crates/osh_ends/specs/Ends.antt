@@ -8,7 +8,7 @@ use Rattle.ds_port.specs.FileMap.{FileMap, file_at}
 use Rattle.config_read.specs.declared.fault.ConfigWhy.{ConfigWhy}
 use Rattle.config_read.specs.declared.config.Config.{Config}
 use Rattle.config_read.specs.Pools.{default_count}
-use Rattle.config_read.specs.Reading.{config_of}
+use Rattle.config_read.specs.First.{IsSpelled, IsFirstFault}
 use Rattle.flow_files.specs.Tallies.{IsLeast}
 use Rattle.flow_files.specs.Texts.{exported_text}
 use Rattle.flow_graph.specs.declared.flow.Flow.{Flow}
@@ -68,8 +68,8 @@ FlowIn text next end =
 -- the number of nodes in the default pool of the configuration that a text spells
 abbrev pub NodesIn : List ℕ → (ℕ → End → Type 0) → End → Type 0
 NodesIn text next end =
-    ((at : ℕ) × (why : ConfigWhy) × (config_of text ≡ Err (record { at = at; why = why })) × (end ≡ bad_config at why))
-    ⊎ ((config : Config) × (config_of text ≡ Ok config) × next (default_count config.nodes) end)
+    ((at : ℕ) × (why : ConfigWhy) × IsFirstFault text at why × (end ≡ bad_config at why))
+    ⊎ ((config : Config) × IsSpelled text config × next (default_count config.nodes) end)
 
 -- the shape of a flow
 abbrev pub Shapes : Flow → (Chart → End → Type 0) → End → Type 0
