@@ -1,11 +1,12 @@
 -- What a run needs of its flow.
-use Rattle.std.proofs.Common.{◌≡◌, ◌<◌, ℕ, Bool, true, false, List, [], sym, subst}
+use Rattle.std.proofs.Common.{◌≡◌, ◌<◌, ℕ, Bool, true, false, List, [], length, ap, sym, subst, ◌∙◌}
 use Rattle.flow_graph.specs.declared.flow.Flow.{Flow}
 use Rattle.flow_graph.specs.declared.route.Choice.{Choice}
 use Rattle.flow_graph.specs.declared.state.State.{State}
 use Rattle.flow_graph.specs.Charts.{Chart}
 use Rattle.flow_rules.specs.declared.verdict.Verdict.TheVariants.{Accepted}
-use Rattle.flow_rules.specs.Verdicts.{IsVerdict}
+use Rattle.std.proofs.lemmas.List.FromFn.{length-map-range_with_len}
+use Rattle.flow_rules.specs.Verdicts.{IsVerdict, choice_at}
 use Rattle.flow_score.specs.Seating.{Seats}
 use Rattle.flow_shape.specs.Refusals.{IsShapeOf}
 use Rattle.osh_call.specs.Stages.{IsBuiltShape}
@@ -24,3 +25,6 @@ is_ready c choices nodes players states keeps b some verdict seats = record {
   players = players;
   seats = seats;
 }
+
+pub each_choice : (c : Chart) (choices : List Choice) (states : List State) → IsVerdict false c (Accepted states choices) → length choices ≡ length c.flow.links
+each_choice c choices states v = ap length v.choices_are ∙ length-map-range_with_len (choice_at c) 0 (length c.flow.links)

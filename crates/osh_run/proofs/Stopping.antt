@@ -16,13 +16,13 @@ use Rattle.osh_ends.specs.Steps.{Reads}
 use Rattle.osh_run.specs.Stages.{AreTexts, IsPrepared}
 
 -- what stands behind the shape, the configuration and the flow
-RunsShape : FileMap → ℕ → Chart → End → Type 0
+abbrev RunsShape : FileMap → ℕ → Chart → End → Type 0
 RunsShape files nodes c = Finds files c (VerdictRuns files c nodes)
 
-RunsNodes : FileMap → Flow → ℕ → End → Type 0
+abbrev RunsNodes : FileMap → Flow → ℕ → End → Type 0
 RunsNodes files flow nodes = Shapes flow (RunsShape files nodes)
 
-RunsFlow : FileMap → List ℕ → Flow → End → Type 0
+abbrev RunsFlow : FileMap → List ℕ → Flow → End → Type 0
 RunsFlow files config flow = Reads (file_at files config) (absent config) (λ text. NodesIn text (RunsNodes files flow))
 
 pub flow_stops : (files : FileMap) (name config : List ℕ) (a : Answer) → FileStops files name FlowInStops a → Halts (RunsFile files name config) a

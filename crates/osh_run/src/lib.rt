@@ -1,9 +1,9 @@
 //! The command `run`, from the names of its files to its end.
 #![tactic(auto)]
 
-mod prepare;
 mod running;
 mod seating;
+mod stages;
 
-pub use prepare::{Prepared, prepare};
 pub use running::run;
+pub use stages::{Prepared, prepare};
