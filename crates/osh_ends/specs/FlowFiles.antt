@@ -9,7 +9,6 @@ use Rattle.op_base.specs.Meanings.{Line}
 use Rattle.op_base.specs.RowOperators.{copy_rule, sink_rule}
 use Rattle.ds_text.specs.declared.form.Form.{Form}
 use Rattle.ds_text.specs.declared.form.Form.TheVariants.{Delimited, Fixed}
-use Rattle.ds_text.specs.Forms.{FormFits}
 use Rattle.flow_files.specs.Lines.{AreLines, beyond}
 use Rattle.flow_files.specs.Texts.{export_faults}
 use Rattle.flow_graph.specs.Charts.{Chart, op_at, keys_at, links_into}
@@ -49,12 +48,6 @@ fields_of c l = get_or c.schemas l []
 abbrev pub form : ℕ → Option (List ℕ) → Form
 form delim None = Delimited delim
 form delim (Some widths) = Fixed widths
-
--- the form of a file suits the columns of its rows
-abbrev pub FormSuits : Chart → ℕ → OpKind → Type 0
-FormSuits c o (kind.Import file schema delim fixed reject) = FormFits schema (form delim fixed)
-FormSuits c o (kind.Export file delim fixed) = FormFits (fields_of c (input_of c o)) (form delim fixed)
-FormSuits c o k = Unit {0}
 
 -- the lines of its file decide an import, the columns of its input which rows an export can't write
 abbrev pub IsOp : FileMap → Chart → ℕ → OpKind → Op → Type 0

@@ -1,14 +1,12 @@
 -- Over the same files a flow means one thing: its operators are the same, and so are their faults.
-use Rattle.std.proofs.Common.{◌≡◌, ◌==◌, not, ℕ, Bool, true, false, inl, inr, List, [], ◌∷◌, ◌++◌, map, refl, sym, ap, ap₂, ◌∙◌, subst, length, Option, None, Some}
+use Rattle.std.proofs.Common.{◌≡◌, ℕ, inl, inr, List, [], ◌∷◌, ◌++◌, map, refl, sym, ap, ap₂, ◌∙◌, subst, Option, None}
 use Rattle.std.specs.List.{AllByRecursion}
-use Rattle.std.proofs.lemmas.Bool.{eqb-true}
 use Rattle.ds_port.specs.FileMap.{FileMap}
 use Rattle.ds_schema.specs.declared.schema.Field.{Field}
-use Rattle.ds_text.specs.Forms.{FormFits, IsDelimiter}
 use Rattle.flow_files.specs.Lines.{AreLines, beyond}
 use Rattle.flow_files.proofs.OneList.{one_list}
 use Rattle.op_base.specs.Columns.{IsIn, Row}
-use Rattle.flow_graph.specs.Charts.{Chart, links_into, no_op, op_at}
+use Rattle.flow_graph.specs.Charts.{Chart, no_op, op_at}
 use Rattle.flow_graph.specs.declared.flow.Flow.{Flow}
 use Rattle.flow_graph.specs.declared.flow.OpSpec.{OpSpec}
 use Rattle.flow_graph.specs.declared.op_kind.OpKind.{OpKind}
@@ -18,45 +16,28 @@ use Rattle.flow_graph.specs.Operators.{Op, faults, import, result}
 use Rattle.flow_graph.specs.Runs.{Forward, Means, Node, Out, meant_faults}
 use Rattle.flow_rules.specs.Verdicts.{node_at, nodes_of}
 use Rattle.flow_rules.proofs.FlowAll.{along_all}
-use Rattle.flow_shape.specs.declared.fault.ShapeWhy.TheVariants as why
-use Rattle.flow_shape.specs.Causes.{cause_if, first_cause}
-use Rattle.flow_shape.specs.Options.{option_causes, output_causes, widths_cause}
-use Rattle.flow_shape.specs.Refusals.{Fits, IsShapeOf, input_cause, inputs_at}
+use Rattle.flow_shape.specs.Causes.{first_cause}
+use Rattle.flow_shape.specs.Options.{option_causes}
+use Rattle.flow_shape.specs.Refusals.{IsShapeOf, inputs_at}
 use Rattle.flow_shape.proofs.Causing.{all_at}
-use Rattle.flow_shape.proofs.Sound.{none_both}
 use Rattle.osh_ends.specs.FlowFiles.{IsMeaning, IsOp, form}
+use Rattle.osh_ends.proofs.Forms.{form_fits, options_sound}
 use Rattle.osh_sound.specs.Sound.{AreWidths, FormStands, KeepsForms}
 use Rattle.osh_once.proofs.Orders.{goes_forward, ordered_below}
 
 -- ---- operators
 
-none_stands : (x : Bool) → first_cause (cause_if (not x) why.Schemas ∷ []) ≡ None → x ≡ true
-none_stands true h = refl
-none_stands false h = absurd cc
-
--- a form that records can have, with a width for each column
-form_fits : (fields : List Field) (delim : ℕ) (fixed : Option (List ℕ)) → IsDelimiter delim × AreWidths fixed → first_cause (widths_cause fixed fields ∷ []) ≡ None → FormFits fields (form delim fixed)
-form_fits fields delim None h e = h.0
-form_fits fields delim (Some widths) h e = record { one_each = eqb-true (length widths) (length fields) (none_stands (length widths == length fields) e); each = h.1 }
-
 same_op : (files : FileMap) (c : Chart) (o : ℕ) (k : OpKind) (ins : List (List Field)) (a b : Op) → FormStands k → first_cause (option_causes k ins) ≡ None → IsOp files c o k a → IsOp files c o k b → a ≡ b
 same_op files c o (kind.Import file schema delim fixed reject) ins a b stands none x y =
     let h = sym x.2 ∙ y.2 in
     let bytes : x.0 ≡ y.0 = cc h in
-    let lines = one_list (form delim fixed) schema o y.0 x.1 y.1 (form_fits schema delim fixed stands none) (subst (λ bs. AreLines (form delim fixed) schema o bs x.1) bytes x.3) y.3 in
+    let lines = one_list (form delim fixed) schema o y.0 x.1 y.1 (form_fits schema delim fixed stands.0 (λ widths e. subst AreWidths e stands.1) none) (subst (λ bs. AreLines (form delim fixed) schema o bs x.1) bytes x.3) y.3 in
     x.4 ∙ ap₂ (λ ls bs. import ls reject (beyond o bs)) lines bytes ∙ sym y.4
 same_op files c o (kind.Export file delim fixed) ins a b stands none x y = x ∙ sym y
 same_op files c o kind.Copy ins a b stands none x y = x ∙ sym y
 same_op files c o (kind.Tsort key) ins a b stands none x y = x ∙ sym y
 same_op files c o (kind.Remdup key last) ins a b stands none x y = x ∙ sym y
 same_op files c o k ins a b stands none x y = absurd x
-
--- nothing is wrong at the options of an operator
-options_sound : (c : Chart) (o : ℕ) → Fits c o → first_cause (option_causes (op_at c o).kind (inputs_at c o)) ≡ None
-options_sound c o f =
-    let k = (op_at c o).kind in
-    let ins = inputs_at c o in
-    (none_both (option_causes k ins) (output_causes k ins) (none_both (map (input_cause c o) (links_into c o)) (option_causes k ins ++ output_causes k ins) f.sound).1).0
 
 same_nodes : (c : Chart) (a b : ℕ → Op) (order : List ℕ) → ((o : ℕ) → IsIn o order → a o ≡ b o) → map (node_at c a) order ≡ map (node_at c b) order
 same_nodes c a b [] h = refl

@@ -10,7 +10,8 @@ use Rattle.flow_graph.specs.FlowShape.{IsShape}
 use Rattle.flow_sound.specs.Kinds as kinds
 use Rattle.flow_sound.proofs.Keeping.{export_link}
 use Rattle.osh_ends.specs.Ends.{IsExport}
-use Rattle.osh_ends.specs.FlowFiles.{FormSuits, fields_of, input_of}
+use Rattle.osh_ends.specs.FlowFiles.{fields_of, input_of}
+use Rattle.osh_ends.proofs.Forms.{FormSuits}
 use Rattle.run_finish.specs.Written.{CanWrite, CanWriteAll, sink_at}
 
 -- exports, as both crates name them
