@@ -4,10 +4,9 @@ ghost use Rattle.std.specs.Prelude.{◌≡◌, ◌<◌, [], true, false, IsTrue,
 ghost use Rattle.ds_port.specs.Causes.{HasCause};
 ghost use Rattle.ds_text.specs.Forms.{FormFits};
 ghost use Rattle.ds_text.specs.Readers.{remaining};
-ghost use Rattle.flow_files.specs.Lines.{AllFit, AreOfLines, Imports, IsLine};
+ghost use Rattle.flow_files.specs.Lines.{AllFit, AreOfLines, Imports, bad_record, line_row};
+ghost use Rattle.op_base.specs.Meanings.{bad};
 ghost use Rattle.flow_files.specs.Steps.{Adds, Takes, Steps, Ends, TakesAll, AreFew};
-ghost use Rattle.op_base.specs.Meanings.{good, bad};
-ghost use Rattle.flow_files.specs.Lines.{line_row, bad_record};
 
 use crate::fault::{FileFault, bad_record, file_too_long, line_row};
 use crate::tally::Tally;
