@@ -1,0 +1,3 @@
+pub mod PrintedWords
+pub mod MethodsPrinted
+pub mod OptionsFit
