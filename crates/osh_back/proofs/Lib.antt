@@ -1,3 +1,4 @@
 pub mod PrintedWords
 pub mod MethodsPrinted
 pub mod OptionsFit
+pub mod OptionsStand
