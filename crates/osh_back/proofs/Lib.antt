@@ -2,3 +2,4 @@ pub mod PrintedWords
 pub mod MethodsPrinted
 pub mod OptionsFit
 pub mod OptionsStand
+pub mod LinesPrinted
