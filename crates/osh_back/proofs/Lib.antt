@@ -3,3 +3,5 @@ pub mod MethodsPrinted
 pub mod OptionsFit
 pub mod OptionsStand
 pub mod LinesPrinted
+pub mod OutputsBack
+pub mod InputsBack
