@@ -5,3 +5,5 @@ pub mod OptionsStand
 pub mod LinesPrinted
 pub mod OutputsBack
 pub mod InputsBack
+pub mod JoinedBack
+pub mod FlowsBack

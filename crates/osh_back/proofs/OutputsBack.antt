@@ -219,7 +219,7 @@ outs_right links from (suc n) out s h = by (position (leaves from out) links) re
 some_is : (x y : ℕ) → (let o : Option ℕ = Some x in o) ≡ Some y → x ≡ y
 some_is x y h = cc
 
-ne_from : (x y : ℕ) → (x == y) ≡ false → x ≢ y
+pub ne_from : (x y : ℕ) → (x == y) ≡ false → x ≢ y
 ne_from x y h = λ e. (let k = eq-eqb x y e in absurd cc)
 
 outs_have : (links : List LinkSpec) (from n out i : ℕ) → i < length links → (get_or links i no_link).from ≡ from → out ≤ (get_or links i no_link).out → (get_or links i no_link).out < out + n → ((port : ℕ) → port < out + n → length (filter (leaves from port) links) ≡ 1)
