@@ -7,3 +7,6 @@ pub mod OutputsBack
 pub mod InputsBack
 pub mod JoinedBack
 pub mod FlowsBack
+pub mod ReadLists
+pub mod ReadValues
+pub mod ReadKinds

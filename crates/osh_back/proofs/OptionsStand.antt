@@ -37,7 +37,7 @@ row_by : (r row : OptRow) (word : List ℕ) (other : Option OptRow) (b : Bool) �
 row_by r row word other true e more h = (let same : r ≡ row = cc in ap (λ (x : OptRow). option_word x.opt) (sym same) ∙ same_bytes (option_word r.opt) word e)
 row_by r row word other false e more h = more h
 
-row_word : (rs : List OptRow) (word : List ℕ) (row : OptRow) → row_among rs word ≡ Some row → option_word row.opt ≡ word
+pub row_word : (rs : List OptRow) (word : List ℕ) (row : OptRow) → row_among rs word ≡ Some row → option_word row.opt ≡ word
 row_word [] word row h = absurd cc
 row_word (r ∷ rs) word row h = row_by r row word (row_among rs word) (bytes_eq (option_word r.opt) word) refl (λ k. row_word rs word row k) h
 
