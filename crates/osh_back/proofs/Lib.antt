@@ -10,3 +10,5 @@ pub mod FlowsBack
 pub mod ReadLists
 pub mod ReadValues
 pub mod ReadKinds
+pub mod ReadOutputs
+pub mod ReadFlows
