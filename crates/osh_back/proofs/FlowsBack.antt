@@ -1,13 +1,12 @@
 -- The printed text of a flow that can be spelled is read as the flow.
-use Rattle.std.proofs.Common.{◌≡◌, ◌≤◌, ◌<◌, ◌^◌, ◌+◌, inl, inr, ℕ, zero, suc, List, [], ◌∷◌, ◌++◌, length, take, map, filter, get_or, cond, Bool, true, false, Ok, Option, Some, None, refl, sym, ap, ◌∙◌, subst, append_assoc, arith, length-append, lit<}
+use Rattle.std.proofs.Common.{◌≡◌, ◌≤◌, ◌<◌, ◌^◌, ◌+◌, ℕ, zero, suc, List, [], ◌∷◌, ◌++◌, length, take, map, filter, get_or, cond, Bool, true, false, Some, None, refl, sym, ap, ◌∙◌, subst, append_assoc, arith, length-append, lit<}
 use Rattle.std.specs.Prelude.{if◌then◌else◌, ◌==◌, nat_lt, codes}
 use Rattle.std.specs.List.{AllByRecursion}
 use Rattle.std.proofs.lemmas.Bool.{le-ltb}
 use Rattle.std.proofs.lemmas.List.{append-nil, take_all}
 use Rattle.ds_lex.specs.declared.token.Mode.TheVariants.{Osh}
 use Rattle.ds_lex.specs.declared.lexeme.End.TheVariants as ends
-use Rattle.ds_lex.specs.Lexed.{Lexed, lexed}
-use Rattle.ds_lex.specs.Lexemes.{Lexeme, LexedText, LimitedText, lexed_text, end_of, front_text, limited_text}
+use Rattle.ds_lex.specs.Lexemes.{Lexeme, lexed_text, limited_text}
 use Rattle.ds_lex.specs.Phrases.{Phrase, word, nothing, ◌~◌}
 use Rattle.ds_lex.proofs.Printed.{Lexes, lexes_end, Prints, prints_nothing, prints_then, blank_before, prints_word, anything}
 use Rattle.flow_graph.specs.declared.flow.Flow.{Flow}
@@ -17,22 +16,21 @@ use Rattle.flow_graph.specs.Charts.{no_link}
 use Rattle.osh_read.specs.declared.stage.Directive.{Directive}
 use Rattle.osh_read.specs.declared.stage.Directive.TheVariants as directive
 use Rattle.osh_read.specs.declared.stage.Directives.{Directives}
-use Rattle.osh_read.specs.declared.stage.Stage.{Stage}
-use Rattle.osh_read.specs.Stages.{directed, no_directives}
-use Rattle.osh_read.specs.Joining.{ops, links, outputs, unjoined}
-use Rattle.osh_read.specs.Flows.{made, flow_of}
+use Rattle.osh_read.specs.Stages.{no_directives}
+use Rattle.osh_read.specs.Joining.{ops, links, outputs}
+use Rattle.osh_read.specs.Flows.{made}
 use Rattle.osh_print.specs.LinkText.{method_text, link_name, inputs_text, outputs_text}
 use Rattle.osh_print.specs.OptionText.{name_of, options_text}
 use Rattle.osh_print.specs.FlowText.{mark_text, line, lines, directive_text, flow_text}
 use Rattle.osh_table.specs.Words.{operator_word}
 use Rattle.osh_read.specs.Stages.{plain_mark}
 use Rattle.osh_value.specs.Kinds.{kind_of}
-use Rattle.osh_sound.specs.Grammar.{setting_of, StandTogether, WrittenStage, IsStage, AreStages, stages_of, stages_phrase, directives_phrase, all_directed, SpellsFlow, SpellsText}
+use Rattle.osh_sound.specs.Grammar.{setting_of, StandTogether, WrittenStage, IsStage, AreStages, stages_of, directives_phrase, all_directed, SpellsFlow, SpellsText}
 use Rattle.osh_sound.proofs.OperatorsWritten.{written_says}
 use Rattle.osh_sound.proofs.FlowsRead.{spelled_read}
-use Rattle.osh_back.specs.Spelled.{MethodFits, OpFits, AreLinked, CanBeSpelled}
+use Rattle.osh_back.specs.Spelled.{OpFits, CanBeSpelled}
 use Rattle.osh_back.specs.BackLaws.{PrintedReadsBack}
-use Rattle.osh_back.proofs.PrintedWords.{prints_as, semicolon, NoWordByte}
+use Rattle.osh_back.proofs.PrintedWords.{semicolon, NoWordByte}
 use Rattle.osh_back.proofs.OptionsStand.{stand_together}
 use Rattle.osh_back.proofs.LinesPrinted.{built, IsLine, AreLines, AllLines, lines_print}
 use Rattle.osh_back.proofs.OutputsBack.{ne_from, Leaves, all_leave, Sources, all_sources}

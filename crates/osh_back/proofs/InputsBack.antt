@@ -1,25 +1,22 @@
 -- The links of printed operators are those that were printed.
-use Rattle.std.proofs.Common.{◌≡◌, ◌≢◌, ◌≤◌, ◌<◌, ◌+◌, ℕ, zero, suc, List, [], ◌∷◌, ◌++◌, length, map, filter, get_or, cond, Bool, true, false, Option, Some, None, refl, sym, ap, ◌∙◌, subst, append_assoc, arith, length-append}
-use Rattle.std.specs.Prelude.{if◌then◌else◌, ◌==◌, nat_le, position}
+use Rattle.std.proofs.Common.{◌≡◌, ◌≢◌, ◌<◌, ◌+◌, ℕ, zero, suc, List, [], ◌∷◌, ◌++◌, length, map, filter, get_or, cond, Bool, true, false, Option, Some, None, refl, sym, ap, ◌∙◌, subst, append_assoc, arith, length-append}
+use Rattle.std.specs.Prelude.{◌==◌, nat_le, position}
 use Rattle.std.specs.List.{AllByRecursion}
 use Rattle.std.proofs.lemmas.Bool.{eqb-true, eq-eqb, ne_eqb, le-leb, leb-true, leb-false, lt-leb}
-use Rattle.std.proofs.lemmas.List.{append-nil}
 use Rattle.flow_graph.specs.declared.flow.LinkSpec.{LinkSpec}
 use Rattle.flow_graph.specs.declared.flow.OpSpec.{OpSpec}
 use Rattle.flow_graph.specs.Charts.{no_link}
 use Rattle.osh_read.specs.declared.stage.Redirect.{Redirect}
 use Rattle.osh_read.specs.declared.stage.Redirect.TheVariants as redirect
 use Rattle.osh_read.specs.declared.stage.Joint.{Joint}
-use Rattle.osh_read.specs.declared.stage.Joint.TheVariants as joint
-use Rattle.osh_read.specs.declared.stage.Stage.{Stage}
 use Rattle.osh_read.specs.declared.links.Output.{Output}
-use Rattle.osh_read.specs.Joining.{pipe_ports, source, link_from, link_of, links_of, pipe_link, links_from}
+use Rattle.osh_read.specs.Joining.{pipe_ports, source, link_from, links_of, pipe_link, links_from}
 use Rattle.osh_print.specs.LinkText.{link_name, leaves}
 use Rattle.osh_sound.specs.Grammar.{WrittenStage, stages_of}
 use Rattle.osh_back.specs.Spelled.{ByConsumer, InPorts}
 use Rattle.osh_back.proofs.MethodsPrinted.{unplaced}
-use Rattle.osh_back.proofs.LinesPrinted.{input_if, inputs, output, outs, leaving, shapes, IsLine, AreLines}
-use Rattle.osh_back.proofs.OutputsBack.{origin, Sources}
+use Rattle.osh_back.proofs.LinesPrinted.{input_if, inputs, output, outs, leaving, AreLines}
+use Rattle.osh_back.proofs.OutputsBack.{Sources}
 
 abbrev pub goes : ℕ → LinkSpec → Bool
 goes to l = l.to == to
@@ -71,8 +68,10 @@ into links os to port pre (l ∷ ls) rs s e n h =
   where
     here : get_or links (length pre) no_link ≡ l
     here = ap (λ (xs : List LinkSpec). get_or xs (length pre) no_link) e ∙ get_at pre l ls
+
     inside : length pre < length links
     inside = let a = ap length e in let b = length-append pre (l ∷ ls) in omega arith
+
     by : (b : Bool) → (l.to == to) ≡ b → InPorts port (cond b (l ∷ filter (goes to) ls) (filter (goes to) ls)) → ((p : ℕ) → InPorts p (filter (goes to) ls) → links_of os to p (inputs to (length pre + 1) ls ++ rs) ≡ filter (goes to) ls)
         → links_of os to port ((input_if b (length pre) l ++ inputs to (length pre + 1) ls) ++ rs) ≡ cond b (l ∷ filter (goes to) ls) (filter (goes to) ls)
     by true q k more =
@@ -80,9 +79,9 @@ into links os to port pre (l ∷ ls) rs s e n h =
         let out_here = ap (λ (x : LinkSpec). x.out) here in
         let found = s (length pre) inside in
         let one : link_from (source os (link_name (length pre))) to port (redirect.In 0 (link_name (length pre)) l.method l.flag) ≡ l ∷ [] =
-            ap (λ (o : Option Output). link_from o to port (redirect.In 0 (link_name (length pre)) l.method l.flag)) found
-            ∙ (ap (λ (x : LinkSpec). let q : LinkSpec = record { from = x.from; out = x.out; to = to; port = port; method = l.method; flag = l.flag } in q ∷ []) here
-            ∙ ap (λ (x : LinkSpec). x ∷ []) (link_is l to port (eqb-true _ _ q) k.0)) in
+        ap (λ (o : Option Output). link_from o to port (redirect.In 0 (link_name (length pre)) l.method l.flag)) found
+        ∙ (ap (λ (x : LinkSpec). let q : LinkSpec = record { from = x.from; out = x.out; to = to; port = port; method = l.method; flag = l.flag } in q ∷ []) here
+        ∙ ap (λ (x : LinkSpec). x ∷ []) (link_is l to port (eqb-true _ _ q) k.0)) in
         ap (λ (xs : List LinkSpec). xs ++ links_of os to (port + 1) (inputs to (length pre + 1) ls ++ rs)) one ∙ ap (λ (xs : List LinkSpec). l ∷ xs) (more (port + 1) k.1))
     by false q k more = more port k
 
@@ -137,7 +136,7 @@ stages_link links outputs to (o ∷ os) (v ∷ ws) s b p w h =
     let line = h.0 in
     let more = stages_link links outputs (to + 1) os ws s b p (subst (λ n. AllByRecursion (λ (l : LinkSpec). (l.from < n) × (l.to < n)) links) (let z : to + suc (length os) ≡ to + 1 + length os = omega arith in z) w) h.1 in
     let here : links_of outputs to 0 v.stage.redirects ≡ filter (goes to) links =
-        links_placed outputs to 0 v.stage.redirects ∙ (ap (links_of outputs to 0) line.redirects ∙ into links outputs to 0 [] links (outs links to (leaving to links) 0) s refl (λ q. no_outs outputs to q links to (leaving to links) 0) (p to)) in
+    links_placed outputs to 0 v.stage.redirects ∙ (ap (links_of outputs to 0) line.redirects ∙ into links outputs to 0 [] links (outs links to (leaving to links) 0) s refl (λ q. no_outs outputs to q links to (leaving to links) 0) (p to)) in
     ap (λ (j : Joint). pipe_link to j ++ (links_of outputs to (pipe_ports j) v.stage.redirects ++ links_from outputs (to + 1) (stages_of ws))) line.joined
     ∙ (ap (λ (xs : List LinkSpec). xs ++ links_from outputs (to + 1) (stages_of ws)) here
     ∙ (ap (λ (xs : List LinkSpec). filter (goes to) links ++ xs) more ∙ sym (split_off 0 to links b)))

@@ -1,6 +1,6 @@
 -- Each link of printed operators is written once and read once.
 use Rattle.std.proofs.Common.{◌≡◌, ◌≢◌, ◌⊎◌, ◌≤◌, ◌<◌, ◌^◌, ◌+◌, inl, inr, ℕ, zero, suc, List, [], ◌∷◌, ◌++◌, length, map, filter, get_or, cond, Bool, true, false, Option, Some, None, refl, sym, ap, ◌∙◌, subst, append_assoc, arith, length-append}
-use Rattle.std.specs.Prelude.{if◌then◌else◌, ◌==◌, ◌&&◌, position}
+use Rattle.std.specs.Prelude.{◌==◌, position}
 use Rattle.std.specs.List.{AllByRecursion}
 use Rattle.std.specs.Str.{bytes_eq}
 use Rattle.std.proofs.lemmas.Bool.{eqb-true, eq-eqb, ne_eqb, false_from_ne_true}
@@ -12,13 +12,12 @@ use Rattle.flow_graph.specs.declared.flow.OpSpec.{OpSpec}
 use Rattle.flow_graph.specs.Charts.{no_link}
 use Rattle.osh_read.specs.declared.stage.Redirect.{Redirect}
 use Rattle.osh_read.specs.declared.stage.Redirect.TheVariants as redirect
-use Rattle.osh_read.specs.declared.stage.Stage.{Stage}
-use Rattle.osh_read.specs.Joining.{name_of, place_of, writes, reads, is_joined, unjoined_in, all_redirects, unjoined}
+use Rattle.osh_read.specs.Joining.{name_of, writes, reads, is_joined, unjoined_in, all_redirects, unjoined}
 use Rattle.osh_print.specs.LinkText.{link_name, leaves}
 use Rattle.osh_sound.specs.Grammar.{WrittenStage, stages_of}
 use Rattle.osh_back.proofs.MethodsPrinted.{unplaced}
-use Rattle.osh_back.proofs.LinesPrinted.{input_if, inputs, output, outs, leaving, shapes, IsLine, AreLines}
-use Rattle.osh_back.proofs.OutputsBack.{same_number, none_passes, Stands, found_stands, found_at, Leaves, ne_from}
+use Rattle.osh_back.proofs.LinesPrinted.{input_if, inputs, output, outs, leaving, IsLine, AreLines}
+use Rattle.osh_back.proofs.OutputsBack.{same_number, found_stands, found_at, Leaves, ne_from}
 use Rattle.osh_back.proofs.InputsBack.{get_at}
 
 -- how many redirects write the name, and how many read it
@@ -94,8 +93,10 @@ read_once links i to pre (l ∷ ls) s e low high =
   where
     total : length links ≡ length pre + suc (length ls)
     total = ap length e ∙ length-append pre (l ∷ ls)
+
     here : get_or links (length pre) no_link ≡ l
     here = ap (λ (xs : List LinkSpec). get_or xs (length pre) no_link) e ∙ get_at pre l ls
+
     by : (a : Bool) → (length pre == i) ≡ a → (b : Bool) → (l.to == to) ≡ b → (length pre + 1 ≤ i → read (link_name i) (inputs to (length pre + 1) ls) ≡ one_if ((get_or links i no_link).to == to))
         → read (link_name i) (input_if b (length pre) l ++ inputs to (length pre + 1) ls) ≡ one_if ((get_or links i no_link).to == to)
     by true p true q more =
@@ -284,6 +285,6 @@ all_joined links os ws s l w h =
     let all = all_redirects (stages_of ws) in
     none_unjoined links all all
     (λ i k. (let n = w i k in joined_by all (link_name i)
-        (all_written links 0 i os ws s k l h ∙ is_among (get_or links i no_link).from 0 (length os) (omega arith) (omega arith))
-        (all_read links 0 i os ws s k h ∙ is_among (get_or links i no_link).to 0 (length os) (omega arith) (omega arith))))
+    (all_written links 0 i os ws s k l h ∙ is_among (get_or links i no_link).from 0 (length os) (omega arith) (omega arith))
+    (all_read links 0 i os ws s k h ∙ is_among (get_or links i no_link).to 0 (length os) (omega arith) (omega arith))))
     (redirects_of links 0 os ws h)

@@ -1,6 +1,6 @@
 -- Printed operators, one on a line, are tokens that spell stages.
-use Rattle.std.proofs.Common.{◌≡◌, ◌≤◌, ◌<◌, ◌^◌, ◌+◌, inl, inr, ℕ, zero, suc, List, [], ◌∷◌, ◌++◌, length, map, filter, get_or, Bool, true, false, Option, Some, None, refl, sym, ap, ◌∙◌, subst, append_assoc, arith}
-use Rattle.std.specs.Prelude.{if◌then◌else◌, ◌==◌, ◌||◌, position, codes}
+use Rattle.std.proofs.Common.{◌≡◌, ◌≤◌, ◌<◌, ◌^◌, ◌+◌, inl, ℕ, zero, suc, List, [], ◌∷◌, ◌++◌, length, map, filter, Bool, true, false, Option, Some, None, refl, sym, ap, ◌∙◌, subst, append_assoc, arith}
+use Rattle.std.specs.Prelude.{if◌then◌else◌, ◌==◌, position, codes}
 use Rattle.std.specs.List.{flat_map, AllByRecursion}
 use Rattle.std.proofs.lemmas.Bool.{or_parts}
 use Rattle.std.proofs.lemmas.List.Quantifiers.{position-Some}
@@ -9,7 +9,7 @@ use Rattle.ds_lex.specs.declared.token.Mode.TheVariants.{Osh}
 use Rattle.ds_lex.specs.declared.token.Sort.TheVariants as sort
 use Rattle.ds_lex.specs.Lexemes.{Lexeme}
 use Rattle.ds_lex.specs.Pieces.{is_opt_byte, is_word_byte}
-use Rattle.ds_lex.specs.Phrases.{Phrase, word, token, nothing, nothing_where, ◌~◌, ◌<|>◌}
+use Rattle.ds_lex.specs.Phrases.{Phrase, word, token, nothing, nothing_where, ◌~◌}
 use Rattle.ds_lex.proofs.Printed.{Prints, Fails, prints_nothing, prints_then, blank_before, prints_word, prints_name, anything}
 use Rattle.flow_graph.specs.declared.flow.Mark.{Mark}
 use Rattle.flow_graph.specs.declared.flow.Mark.TheVariants as mark
@@ -26,12 +26,11 @@ use Rattle.osh_table.specs.Words.{operator_word, operator_named}
 use Rattle.osh_read.specs.declared.stage.Redirect.{Redirect}
 use Rattle.osh_read.specs.declared.stage.Redirect.TheVariants as redirect
 use Rattle.osh_read.specs.declared.stage.Joint.TheVariants as joint
-use Rattle.osh_read.specs.declared.stage.Stage.{Stage}
 use Rattle.osh_read.specs.Stages.{plain_mark, bears}
 use Rattle.osh_print.specs.OptionText.{name_of, options_text}
 use Rattle.osh_print.specs.LinkText.{method_text, link_name, input_text, inputs_text, leaves, output_text, outputs_from, outputs_text}
 use Rattle.osh_print.specs.FlowText.{mark_text, line, lines}
-use Rattle.osh_sound.specs.Grammar.{WrittenOption, options_phrase, mark_word, mark_phrase, full, redirects_phrase, WrittenStage, stage_phrase, joint_phrase, further_phrase, stages_phrase}
+use Rattle.osh_sound.specs.Grammar.{WrittenOption, options_phrase, mark_word, mark_phrase, WrittenStage, stage_phrase, joint_phrase, further_phrase, stages_phrase}
 use Rattle.osh_sound.specs.OptionLaws.{by_form, written_text}
 use Rattle.osh_sound.specs.OperatorLaws.{IsBuilt, written}
 use Rattle.osh_sound.specs.Sound.{MarkFits}
@@ -39,7 +38,7 @@ use Rattle.osh_sound.proofs.KindsKeep.{CanRun}
 use Rattle.osh_sound.proofs.OptionsPrinted.{options_print}
 use Rattle.osh_sound.proofs.OperatorsWritten.{written_printed}
 use Rattle.osh_back.specs.Spelled.{MethodFits, KindFits, OpFits}
-use Rattle.osh_back.proofs.PrintedWords.{narrow, prints_as, prints_where, either_left, either_right, opens, closes, semicolon, NoWordByte}
+use Rattle.osh_back.proofs.PrintedWords.{prints_as, prints_where, either_left, either_right, opens, closes, semicolon, NoWordByte}
 use Rattle.osh_back.proofs.MethodsPrinted.{unplaced, Somewhere, somewhere_then, nowhere, in_prints, out_prints}
 use Rattle.osh_back.proofs.OptionsFit.{options_fit}
 use Rattle.osh_back.proofs.OptionsStand.{none_lacks}
@@ -270,7 +269,7 @@ line_prints links number o n h f =
     subst (λ (t : List ℕ). Prints Osh (OneLine links number o) (operator_word name ++ (t ++ (y ++ z))) NoWordByte) (sym (written_printed o.kind (built o.kind f.0)))
     (prints_as (token sort.Word (Named name) ~ options_phrase name (written o.kind) ~ mark_phrase name o.mark ~ Somewhere (shapes links number)) (OneLine links number o) (operator_word name ++ (x ++ (y ++ z))) NoWordByte
     (λ ts rest p. (let q = p.2 in let r = q.2 in let s = r.2 in
-        (stage_with o s.0, record { op = refl; options = refl; kind = refl; mark = refl; joined = refl; redirects = s.1 }, (p.0, p.1, (p.0, (none_lacks o.kind p.0 q.0 f.0 q.1, refl), (q.0, q.1, (r.0, r.1, s.2)))))))
+    (stage_with o s.0, record { op = refl; options = refl; kind = refl; mark = refl; joined = refl; redirects = s.1 }, (p.0, p.1, (p.0, (none_lacks o.kind p.0 q.0 f.0 q.1, refl), (q.0, q.1, (r.0, r.1, s.2)))))))
     (prints_then Osh (token sort.Word (Named name)) (options_phrase name (written o.kind) ~ mark_phrase name o.mark ~ Somewhere (shapes links number)) (operator_word name) (x ++ (y ++ z)) NoWordByte NoWordByte (operator_prints o.kind f.0)
     (prints_then Osh (options_phrase name (written o.kind)) (mark_phrase name o.mark ~ Somewhere (shapes links number)) x (y ++ z) (Fails is_opt_byte) NoWordByte (options_print name (written o.kind) (options_fit o.kind f.0))
     (prints_then Osh (mark_phrase name o.mark) (Somewhere (shapes links number)) y z anything NoWordByte (mark_prints name (plain_mark name) o.mark refl (can_run o.kind o.mark f.0 f.1)) (shapes_print links number n h) (λ after g. tt))

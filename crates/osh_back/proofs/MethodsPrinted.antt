@@ -1,7 +1,6 @@
 -- Printed methods and redirects are tokens that spell them.
-use Rattle.std.proofs.Common.{◌≡◌, ◌<◌, ◌^◌, ◌+◌, ℕ, zero, suc, List, [], ◌∷◌, ◌++◌, length, map, filter, Bool, true, false, Option, Some, None, refl, sym, ap, ◌∙◌, subst, append_assoc}
-use Rattle.std.specs.Prelude.{if◌then◌else◌, ◌==◌, position, codes}
-use Rattle.std.specs.List.{AllByRecursion}
+use Rattle.std.proofs.Common.{◌≡◌, ◌<◌, ◌^◌, ℕ, List, [], ◌∷◌, ◌++◌, map, refl, sym, ap, ◌∙◌, subst, append_assoc}
+use Rattle.std.specs.Prelude.{codes}
 use Rattle.ds_lex.specs.declared.token.Mode.TheVariants.{Osh}
 use Rattle.ds_lex.specs.declared.token.Sort.TheVariants as sort
 use Rattle.ds_lex.specs.Lexemes.{Lexeme}
@@ -14,11 +13,10 @@ use Rattle.flow_graph.specs.declared.flow.Method.{Method}
 use Rattle.flow_graph.specs.declared.flow.Method.TheVariants as method
 use Rattle.flow_graph.specs.declared.flow.Flag.{Flag}
 use Rattle.flow_graph.specs.declared.flow.Flag.TheVariants as flag
-use Rattle.flow_graph.specs.declared.flow.LinkSpec.{LinkSpec}
 use Rattle.osh_read.specs.declared.stage.Redirect.{Redirect}
 use Rattle.osh_read.specs.declared.stage.Redirect.TheVariants as redirect
-use Rattle.osh_print.specs.LinkText.{kind_text, link_flag, bracketed, method_text, link_name, input_text, inputs_text, leaves, output_text, outputs_from}
-use Rattle.osh_sound.specs.Grammar.{flag_word, name_form, kind_phrase, inside_phrase, method_phrase, redirect_phrase, redirects_phrase}
+use Rattle.osh_print.specs.LinkText.{kind_text, link_flag, bracketed, method_text, link_name}
+use Rattle.osh_sound.specs.Grammar.{flag_word, name_form, kind_phrase, inside_phrase, method_phrase, redirects_phrase}
 use Rattle.osh_sound.specs.ValueLaws.{IsColumn}
 use Rattle.osh_back.specs.Spelled.{MethodFits}
 use Rattle.osh_back.proofs.PrintedWords.{narrow, prints_as, prints_where, either_left, either_right, opens, closes, Placed, sign_then, NoWordByte, name_prints, link_word, names_print, keys_print}

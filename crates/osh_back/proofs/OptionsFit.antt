@@ -1,10 +1,10 @@
 -- The options that are printed of an operator that can be spelled have values that can be spelled.
-use Rattle.std.proofs.Common.{◌≡◌, ◌≤◌, ◌<◌, ◌^◌, inl, inr, ℕ, List, [], ◌∷◌, ◌++◌, length, map, Bool, true, false, Option, Some, None, refl, sym, ap, ◌∙◌, subst, append_assoc, arith, lit<}
-use Rattle.std.specs.Prelude.{if◌then◌else◌, not, ◌==◌, ◌&&◌, ◌||◌, nat_le, codes}
-use Rattle.std.specs.List.{list_all, list_any, flat_map, AllByRecursion}
-use Rattle.std.specs.Fmt.{decimal, digits}
+use Rattle.std.proofs.Common.{◌≡◌, ◌≤◌, ◌<◌, ◌^◌, inl, inr, ℕ, List, [], ◌∷◌, ◌++◌, map, Bool, true, false, Option, Some, None, refl, sym, ap, ◌∙◌, subst, arith}
+use Rattle.std.specs.Prelude.{if◌then◌else◌, not, ◌==◌, ◌&&◌, ◌||◌, codes}
+use Rattle.std.specs.List.{list_all, flat_map, AllByRecursion}
+use Rattle.std.specs.Fmt.{decimal}
 use Rattle.std.specs.Cmp.{first_so, second_so}
-use Rattle.std.proofs.lemmas.Bool.{and_from, not-true, eqb-true, ne_eqb}
+use Rattle.std.proofs.lemmas.Bool.{and_from, not-true}
 use Rattle.std.proofs.lemmas.Fmt.{decimal_is_IsNumeral}
 use Rattle.std.proofs.lemmas.Bool.Decides.{nat_tests}
 use Rattle.std.proofs.lemmas.List.Concat.{flat_map-cons}
@@ -17,8 +17,7 @@ use Rattle.ds_value.specs.Names.{IsName, is_name_byte}
 use Rattle.ds_value.specs.declared.kind.Kind.{Kind}
 use Rattle.ds_value.specs.declared.kind.Kind.TheVariants as value_kind
 use Rattle.ds_value.specs.Kinds.{IsKind, IsBits}
-use Rattle.ds_lex.specs.Pieces.{is_digit, is_opt_byte, is_text_byte, is_word_byte}
-use Rattle.ds_lex.specs.Tokens.{IsWord}
+use Rattle.ds_lex.specs.Pieces.{is_opt_byte, is_text_byte, is_word_byte}
 use Rattle.ds_schema.specs.declared.schema.Field.{Field}
 use Rattle.ds_schema.specs.Schemas.{IsFieldName, IsField, IsSchema}
 use Rattle.ds_schema.specs.SchemaText.{kind_text, nullable_text, field_text, schema_text}
@@ -32,16 +31,15 @@ use Rattle.osh_table.specs.declared.operator.OpName.{OpName}
 use Rattle.osh_table.specs.declared.operator.OpName.TheVariants as op
 use Rattle.osh_table.specs.declared.option.OptName.{OptName}
 use Rattle.osh_table.specs.declared.option.OptName.TheVariants as opt
-use Rattle.osh_table.specs.declared.option.Form.{Form}
 use Rattle.osh_table.specs.declared.option.Form.TheVariants as form
 use Rattle.osh_table.specs.Words.{option_word}
 use Rattle.osh_table.specs.Options.{row, row_named}
 use Rattle.osh_value.specs.declared.value.OptValue.TheVariants as value
 use Rattle.osh_print.specs.OptionText.{has_quote, quote_of, with_commas, pair_text, missing_word, name_of}
 use Rattle.osh_sound.specs.Grammar.{WrittenOption}
-use Rattle.osh_sound.specs.ValueLaws.{agg_text, agg_form, IsColumn, IsPair, IsResult, AreWidths, ArePairs, AreColumns, AreKeys}
-use Rattle.osh_sound.specs.OptionLaws.{value_text, IsQuotable, OptionFits}
-use Rattle.osh_sound.specs.OperatorLaws.{one, flag_of, delim_of, widths_of, keys_of, columns_of, renames_of, missing_of, agg_opt, result_of, written}
+use Rattle.osh_sound.specs.ValueLaws.{agg_text, IsColumn, IsPair, IsResult, ArePairs, AreColumns, AreKeys}
+use Rattle.osh_sound.specs.OptionLaws.{IsQuotable, OptionFits}
+use Rattle.osh_sound.specs.OperatorLaws.{one, flag_of, delim_of, widths_of, keys_of, columns_of, renames_of, missing_of, result_of, written}
 use Rattle.osh_sound.proofs.ValuesBack.{values_back}
 use Rattle.osh_back.specs.Spelled.{Maybe, IsDelimiter, FormFits, IsDataSet, KeepsOrDrops, KindFits}
 use Rattle.osh_back.proofs.PrintedWords.{digits_words}
@@ -276,10 +274,14 @@ funnel_fits true sort h = both op.Funnel (flag_of opt.Sequence 1 true) (keys_of 
 funnel_fits false sort h = keys_fit op.Funnel opt.Sort false 1 sort refl h
 
 pub options_fit : (k : OpKind) → KindFits k → AllByRecursion (OptionFits (name_of k)) (written k)
-options_fit (kind.Import file schema delim fixed reject) h =
-    (file_fits op.Import file refl h.0, (schema_fits op.Import schema refl h.1,
+options_fit (kind.Import file schema delim fixed reject) h = (
+  file_fits op.Import file refl h.0,
+  (
+    schema_fits op.Import schema refl h.1,
     both op.Import (delim_of 3 delim) (widths_of 3 fixed ++ flag_of opt.Reject 4 reject) (delim_part op.Import 3 delim fixed refl h.2)
-    (both op.Import (widths_of 3 fixed) (flag_of opt.Reject 4 reject) (widths_part op.Import 3 delim fixed refl h.2) (flag_fits op.Import opt.Reject 4 reject refl))))
+        (both op.Import (widths_of 3 fixed) (flag_of opt.Reject 4 reject) (widths_part op.Import 3 delim fixed refl h.2) (flag_fits op.Import opt.Reject 4 reject refl)),
+  ),
+)
 options_fit (kind.Export file delim fixed) h = (file_fits op.Export file refl h.0, both op.Export (delim_of 2 delim) (widths_of 2 fixed) (delim_part op.Export 2 delim fixed refl h.1) (widths_part op.Export 2 delim fixed refl h.1))
 options_fit (kind.Dsread ds) h = data_set_fits op.Dsread ds refl h
 options_fit (kind.Dswrite ds) h = data_set_fits op.Dswrite ds refl h

@@ -1,8 +1,7 @@
 -- The options that are printed of an operator stand together, and none that it must have lacks.
 use Rattle.std.proofs.Common.{◌≡◌, ◌⊎◌, ◌≤◌, inl, inr, ℕ, List, [], ◌∷◌, ◌++◌, length, map, Bool, true, false, Option, Some, None, refl, sym, ap, ◌∙◌, subst, arith, ◌+◌}
-use Rattle.std.specs.Prelude.{if◌then◌else◌, not, ◌==◌, ◌&&◌, ◌||◌}
+use Rattle.std.specs.Prelude.{if◌then◌else◌, not, ◌==◌, ◌&&◌}
 use Rattle.std.specs.Str.{bytes_eq}
-use Rattle.std.specs.List.{AllByRecursion}
 use Rattle.std.proofs.lemmas.Bool.{or_right, eq-eqb}
 use Rattle.op_base.specs.declared.missing.Missing.TheVariants as missing
 use Rattle.ds_lex.specs.declared.token.Sort.{Sort}
@@ -20,14 +19,14 @@ use Rattle.osh_table.specs.declared.option.OptRow.{OptRow}
 use Rattle.osh_table.specs.declared.option.Form.{Form}
 use Rattle.osh_table.specs.declared.option.Form.TheVariants as form
 use Rattle.osh_table.specs.Words.{option_word}
-use Rattle.osh_table.specs.Options.{options_of, row_among, row_named}
+use Rattle.osh_table.specs.Options.{options_of, row_among}
 use Rattle.osh_value.specs.declared.value.OptValue.{OptValue}
 use Rattle.osh_value.specs.declared.value.OptValue.TheVariants as value
 use Rattle.osh_value.specs.declared.setting.Setting.{Setting}
-use Rattle.osh_read.specs.Options.{is_opt, is_value, stands_ahead, lacks_option, clashes}
+use Rattle.osh_read.specs.Options.{is_opt, is_value, stands_ahead, lacks_option}
 use Rattle.osh_print.specs.OptionText.{name_of}
 use Rattle.osh_sound.specs.Grammar.{WrittenOption, setting_of, value_phrase, options_phrase, StandTogether}
-use Rattle.osh_sound.specs.OperatorLaws.{one, flag_of, delim_of, widths_of, keys_of, columns_of, renames_of, missing_of, result_of, written}
+use Rattle.osh_sound.specs.OperatorLaws.{one, flag_of, widths_of, keys_of, columns_of, missing_of, result_of, written}
 use Rattle.osh_sound.specs.ValueLaws.{AreKeys}
 use Rattle.osh_back.specs.Spelled.{FormFits, KindFits}
 

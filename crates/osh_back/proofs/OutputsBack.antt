@@ -1,11 +1,11 @@
 -- Where the printed outputs of operators lead: each link is found at its own operator and port.
-use Rattle.std.proofs.Common.{◌≡◌, ◌≢◌, ◌⊎◌, ◌≤◌, ◌<◌, ◌^◌, ◌+◌, inl, inr, ℕ, zero, suc, List, [], ◌∷◌, ◌++◌, length, map, filter, get_or, cond, Bool, true, false, Option, Some, None, refl, sym, ap, ◌∙◌, subst, append_assoc, arith}
+use Rattle.std.proofs.Common.{◌≡◌, ◌≢◌, ◌⊎◌, ◌≤◌, ◌<◌, ◌^◌, ◌+◌, inl, inr, ℕ, zero, suc, List, [], ◌∷◌, ◌++◌, length, map, filter, get_or, cond, Bool, true, false, Option, Some, None, refl, sym, ap, ◌∙◌, subst, arith}
 use Rattle.std.specs.Prelude.{if◌then◌else◌, ◌==◌, ◌&&◌, position, nat_lt, codes}
 use Rattle.std.specs.List.{AllByRecursion, position_from}
 use Rattle.std.specs.Str.{bytes_eq}
 use Rattle.std.specs.Cmp.{first_so, second_so}
 use Rattle.std.specs.Fmt.{decimal}
-use Rattle.std.proofs.lemmas.Bool.{eqb-true, eq-eqb, ne_eqb, and_from, false_from_ne_true, ltb-true, ltb-false, lt-ltb}
+use Rattle.std.proofs.lemmas.Bool.{eqb-true, eq-eqb, and_from, ltb-true, ltb-false, lt-ltb}
 use Rattle.std.proofs.lemmas.Bool.Decides.{nat_tests}
 use Rattle.std.proofs.lemmas.Fmt.{decimal_injective}
 use Rattle.std.proofs.lemmas.Iterator.Adapters.{position_from-zero}
@@ -18,16 +18,13 @@ use Rattle.flow_graph.specs.declared.flow.OpSpec.{OpSpec}
 use Rattle.flow_graph.specs.Charts.{no_link}
 use Rattle.osh_read.specs.declared.stage.Redirect.{Redirect}
 use Rattle.osh_read.specs.declared.stage.Redirect.TheVariants as redirect
-use Rattle.osh_read.specs.declared.stage.Joint.{Joint}
-use Rattle.osh_read.specs.declared.stage.Joint.TheVariants as joint
-use Rattle.osh_read.specs.declared.stage.Stage.{Stage}
 use Rattle.osh_read.specs.declared.links.Output.{Output}
 use Rattle.osh_read.specs.Joining.{pipe_ports, ports_before, outputs_of, outputs, source}
 use Rattle.osh_print.specs.LinkText.{link_name, leaves}
 use Rattle.osh_sound.specs.Grammar.{WrittenStage, stages_of}
 use Rattle.osh_back.specs.Spelled.{HasOutputs}
 use Rattle.osh_back.proofs.MethodsPrinted.{unplaced}
-use Rattle.osh_back.proofs.LinesPrinted.{input_if, inputs, output, outs, leaving, shapes, IsLine, AreLines}
+use Rattle.osh_back.proofs.LinesPrinted.{input_if, inputs, output, outs, leaving, IsLine, AreLines}
 
 -- ---- names of links
 
@@ -96,6 +93,7 @@ found_at links i l o = by (position p links) refl
   where
     p : LinkSpec → Bool
     p = leaves (get_or links i no_link).from (get_or links i no_link).out
+
     by : (r : Option ℕ) → position p links ≡ r → r ≡ Some i
     by None e = absurd (let n = ap length (none_passes p links e) in omega arith)
     by (Some j) e =
@@ -142,6 +140,7 @@ tally_more from l ls (suc n) =
   where
     below : (k n : ℕ) → one_if (nat_lt k (suc n)) ≡ one_if (k == n) + one_if (nat_lt k n)
     below k n = grind (arith, nat_tests)
+
     split : (a : Bool) (k n : ℕ) → one_if (a && nat_lt k (suc n)) ≡ one_if (a && (k == n)) + one_if (a && nat_lt k n)
     split true k n = below k n
     split false k n = refl
@@ -212,9 +211,11 @@ outs_right links from (suc n) out s h = by (position (leaves from out) links) re
     by : (r : Option ℕ) → position (leaves from out) links ≡ r → AllRight links (outputs_of from (out + 1) (outs links from n (out + 1))) → AllRight links (outputs_of from out (output r ++ outs links from n (out + 1)))
     by None e more = absurd (let k = ap length (none_passes (leaves from out) links e) in let o = h out (omega arith) in omega arith)
     by (Some j) e more =
-        (let st = found_stands links from out j e in
-        (λ i k same. (let number : j ≡ i = same_number j i (let x = st.inside in omega arith) (omega arith) same in
-            (sym st.from ∙ ap (λ m. (get_or links m no_link).from) number, sym st.out ∙ ap (λ m. (get_or links m no_link).out) number)), more))
+        (let st = found_stands links from out j e in (
+          λ i k same. (let number : j ≡ i = same_number j i (let x = st.inside in omega arith) (omega arith) same in
+              (sym st.from ∙ ap (λ m. (get_or links m no_link).from) number, sym st.out ∙ ap (λ m. (get_or links m no_link).out) number)),
+          more,
+        ))
 
 some_is : (x y : ℕ) → (let o : Option ℕ = Some x in o) ≡ Some y → x ≡ y
 some_is x y h = cc

@@ -1,6 +1,6 @@
 -- Words, signs and lists as they are printed in a flow.
-use Rattle.std.proofs.Common.{◌≡◌, ◌≤◌, ◌<◌, ◌^◌, inl, inr, ℕ, List, [], ◌∷◌, ◌++◌, length, Bool, true, false, Some, refl, sym, ap, ◌∙◌, subst, append_assoc, arith}
-use Rattle.std.specs.Prelude.{◌==◌, ◌&&◌, ◌||◌, not, nat_le, codes}
+use Rattle.std.proofs.Common.{◌≡◌, ◌≤◌, ◌<◌, ◌^◌, inl, inr, ℕ, List, [], ◌∷◌, ◌++◌, length, Bool, true, false, Some, refl, sym, ◌∙◌, subst, append_assoc, arith}
+use Rattle.std.specs.Prelude.{◌==◌, codes}
 use Rattle.std.specs.List.{list_all, flat_map, AllByRecursion}
 use Rattle.std.specs.Fmt.{decimal}
 use Rattle.std.specs.Cmp.{first_so, second_so}
@@ -18,7 +18,7 @@ use Rattle.ds_lex.specs.Tokens.{IsWord}
 use Rattle.ds_lex.specs.Phrases.{Phrase, word, token, nothing, nothing_where, ◌~◌, ◌<|>◌}
 use Rattle.ds_lex.proofs.TokensWhole.{by_mode}
 use Rattle.ds_lex.proofs.Printed.{Lexes, Prints, Fails, Ends, prints_nothing, prints_then, blank_before, prints_word, prints_name, prints_sign, lexes_token, anything}
-use Rattle.ds_schema.specs.ColumnGrammar.{AreNamed, listed, further, name_phrase, desc_phrase, key_phrase, itself, key_name, names_form, keys_form}
+use Rattle.ds_schema.specs.ColumnGrammar.{listed, further, name_phrase, desc_phrase, key_phrase, itself, names_form, keys_form}
 use Rattle.ds_schema.specs.ColumnText.{desc_text, key_text, names_text, keys_text}
 use Rattle.ds_schema.proofs.SchemaPrinted.{and_none, ends_any}
 use Rattle.ds_schema.proofs.SizeReaders.{digits_all}

@@ -1,20 +1,19 @@
 -- Each flow that is read can be spelled.
-use Rattle.std.proofs.Common.{◌≡◌, ◌≢◌, ◌≤◌, ◌<◌, ◌+◌, inl, inr, ℕ, zero, suc, List, [], ◌∷◌, ◌++◌, length, filter, get_or, cond, Bool, true, false, Ok, Option, Some, None, refl, sym, ap, ◌∙◌, subst, append_assoc, arith, length-append}
+use Rattle.std.proofs.Common.{◌≡◌, ◌≤◌, ◌<◌, ◌+◌, inl, inr, ℕ, suc, List, [], ◌∷◌, ◌++◌, length, filter, get_or, cond, Bool, true, false, Option, Some, None, refl, sym, ap, ◌∙◌, subst, append_assoc, arith, length-append}
 use Rattle.std.specs.Prelude.{codes, ◌==◌}
 use Rattle.std.specs.List.{AllByRecursion}
-use Rattle.op_base.proofs.All.{all_append, all_map}
+use Rattle.op_base.proofs.All.{all_append}
 use Rattle.ds_lex.specs.declared.token.Mode.TheVariants.{Osh}
 use Rattle.ds_lex.specs.declared.token.Sort.TheVariants as sort
 use Rattle.ds_lex.specs.Lexemes.{Lexeme, limited_text}
-use Rattle.ds_lex.specs.Phrases.{word, token, ◌~◌}
+use Rattle.ds_lex.specs.Phrases.{word}
 use Rattle.flow_graph.specs.declared.flow.Mark.{Mark}
 use Rattle.flow_graph.specs.declared.flow.LinkSpec.{LinkSpec}
 use Rattle.flow_graph.specs.declared.flow.OpSpec.{OpSpec}
 use Rattle.flow_graph.specs.declared.flow.Flow.{Flow}
-use Rattle.flow_graph.specs.Charts.{no_link, links_into}
+use Rattle.flow_graph.specs.Charts.{no_link}
 use Rattle.flow_graph.specs.FlowShape.{PortsInOrder}
 use Rattle.flow_shape.specs.Refusals.{chart_of}
-use Rattle.flow_shape.specs.Spelled.{IsJoined}
 use Rattle.flow_shape.proofs.Numbers.{numbers}
 use Rattle.flow_shape.proofs.Entries.{into_numbers}
 use Rattle.osh_table.specs.declared.operator.OpName.{OpName}
@@ -27,19 +26,18 @@ use Rattle.osh_read.specs.declared.stage.Stage.{Stage}
 use Rattle.osh_read.specs.declared.stage.Directive.{Directive}
 use Rattle.osh_read.specs.declared.links.Output.{Output}
 use Rattle.osh_read.specs.Joining.{name_of, pipe_ports, source, link_from, link_of, next_input, links_of, pipe_link, links_from, ops, links, outputs, unjoined}
-use Rattle.osh_read.specs.Flows.{made, flow_of}
-use Rattle.osh_sound.specs.Grammar.{options_phrase, mark_word, mark_phrase, sign, method_phrase, redirect_phrase, redirects_phrase, joint_phrase, WrittenStage, stage_phrase, IsStage, AreStages, stages_of, further_phrase, stages_phrase, directives_phrase, SpellsFlow}
+use Rattle.osh_sound.specs.Grammar.{mark_phrase, redirect_phrase, redirects_phrase, joint_phrase, WrittenStage, stage_phrase, IsStage, AreStages, stages_of, further_phrase, stages_phrase, directives_phrase, SpellsFlow}
 use Rattle.osh_sound.specs.Sound.{MarkFits}
 use Rattle.osh_sound.proofs.TokensSound.{AllSound, limited_sound, sign_plain}
-use Rattle.osh_sound.proofs.PhrasesPass.{Left, then_left, same_left, word_pass, token_pass, mark_pass, redirect_pass, redirects_pass, method_pass}
+use Rattle.osh_sound.proofs.PhrasesPass.{word_pass, token_pass, mark_pass, redirect_pass, redirects_pass, method_pass}
 use Rattle.osh_sound.proofs.OptionsRead.{PlainFront}
 use Rattle.osh_sound.proofs.StagesRead.{Front, Closes, further_front}
 use Rattle.osh_sound.proofs.FlowsHold.{text_holds}
 use Rattle.osh_sound.proofs.FlowsKeep.{spelled_joined, spelled_keeps}
 use Rattle.osh_read.specs.Options.{lacks_option}
-use Rattle.osh_back.specs.Spelled.{MethodFits, KindFits, OpFits, ByConsumer, InPorts, HasOutputs, AreLinked, CanBeSpelled}
+use Rattle.osh_back.specs.Spelled.{MethodFits, KindFits, ByConsumer, InPorts, HasOutputs, CanBeSpelled}
 use Rattle.osh_back.specs.BackLaws.{ReadCanBeSpelled}
-use Rattle.osh_back.proofs.ReadLists.{SoundIn, read_method}
+use Rattle.osh_back.proofs.ReadLists.{read_method}
 use Rattle.osh_back.proofs.ReadKinds.{options_good, Whole, kind_fits}
 use Rattle.osh_back.proofs.ReadOutputs.{read_outputs}
 
@@ -177,6 +175,7 @@ listed p all pre (l ∷ ls) q e h =
   where
     here : get_or all (length pre) no_link ≡ l
     here = ap (λ (xs : List LinkSpec). get_or xs (length pre) no_link) e ∙ get_at pre l ls
+
     by : (b : Bool) → ((i : ℕ) → i < length (cond b (length pre ∷ numbers p (length pre + 1) ls) (numbers p (length pre + 1) ls)) → (get_or all (get_or (cond b (length pre ∷ numbers p (length pre + 1) ls) (numbers p (length pre + 1) ls)) i 0) no_link).port ≡ q + i)
         → ((r : ℕ) → ((i : ℕ) → i < length (numbers p (length pre + 1) ls) → (get_or all (get_or (numbers p (length pre + 1) ls) i 0) no_link).port ≡ r + i) → InPorts r (filter p ls)) → InPorts q (cond b (l ∷ filter p ls) (filter p ls))
     by true k more =
@@ -190,7 +189,7 @@ in_ports flow o h =
     let same = into_numbers flow [] o in
     listed (λ (l : LinkSpec). l.to == o) flow.links [] flow.links 0 refl
     (λ i k. (let z : i ≡ 0 + i = omega arith in
-        subst (λ (ns : List ℕ). (get_or flow.links (get_or ns i 0) no_link).port ≡ i) same (h i (subst (λ (ns : List ℕ). i < length ns) (sym same) k)) ∙ z))
+    subst (λ (ns : List ℕ). (get_or flow.links (get_or ns i 0) no_link).port ≡ i) same (h i (subst (λ (ns : List ℕ). i < length ns) (sym same) k)) ∙ z))
 
 -- ---- flows
 

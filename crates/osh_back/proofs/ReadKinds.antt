@@ -1,11 +1,10 @@
 -- What is read as an operator with its options can be spelled as one.
-use Rattle.std.proofs.Common.{◌≡◌, ◌≢◌, ◌⊎◌, ◌≤◌, inl, inr, ℕ, List, [], ◌∷◌, ◌++◌, length, map, filter_map, get_or, Bool, true, false, Option, Some, None, refl, sym, ap, ◌∙◌, subst, arith, ◌+◌}
+use Rattle.std.proofs.Common.{◌≡◌, ◌⊎◌, ◌≤◌, inl, inr, ℕ, List, [], ◌∷◌, ◌++◌, length, map, get_or, Bool, true, false, Option, Some, None, refl, sym, ap, ◌∙◌, subst, arith, ◌+◌}
 use Rattle.std.specs.Prelude.{if◌then◌else◌, not, ◌==◌, ◌&&◌, ◌||◌}
-use Rattle.std.specs.List.{AllByRecursion, list_any, list_all}
+use Rattle.std.specs.List.{AllByRecursion, list_any}
 use Rattle.std.specs.Str.{bytes_eq}
 use Rattle.std.proofs.lemmas.Bool.{eqb-true, eq-eqb, or_parts, or_left, or_right, or_cases}
 use Rattle.std.proofs.lemmas.List.Folds.{list_any-append}
-use Rattle.op_base.specs.declared.missing.Missing.{Missing}
 use Rattle.ds_value.specs.Names.{IsName}
 use Rattle.ds_lex.specs.declared.token.Mode.TheVariants.{Osh}
 use Rattle.ds_lex.specs.declared.token.Sort.{Sort}
@@ -29,12 +28,12 @@ use Rattle.osh_table.specs.Options.{row, options_of, row_named}
 use Rattle.osh_value.specs.declared.value.OptValue.{OptValue}
 use Rattle.osh_value.specs.declared.value.OptValue.TheVariants as value
 use Rattle.osh_value.specs.declared.setting.Setting.{Setting}
-use Rattle.osh_value.specs.Kinds.{number_of, found_value, stands, name_in, schema_in, delim_in, widths_in, keys_in, columns_in, renames_in, result_in, results_of, with_value, kind_of}
-use Rattle.osh_read.specs.Options.{is_opt, is_value, has_group, clashes, stands_ahead, is_absent, is_lacking, lacks_option}
+use Rattle.osh_value.specs.Kinds.{number_of, found_value, stands, name_in, schema_in, delim_in, widths_in, keys_in, columns_in, renames_in, results_of, with_value, kind_of}
+use Rattle.osh_read.specs.Options.{is_opt, is_value, has_group, clashes, stands_ahead, is_lacking, lacks_option}
 use Rattle.osh_sound.specs.Grammar.{WrittenOption, setting_of, value_phrase, options_phrase, StandTogether}
-use Rattle.osh_sound.specs.ValueLaws.{IsResult, AreWidths, ArePairs, AreColumns, AreKeys}
+use Rattle.osh_sound.specs.ValueLaws.{IsResult, ArePairs, AreColumns, AreKeys}
 use Rattle.osh_sound.proofs.OptionsRead.{PlainFront}
-use Rattle.osh_back.specs.Spelled.{Maybe, IsDelimiter, FormFits, IsDataSet, KeepsOrDrops, KindFits}
+use Rattle.osh_back.specs.Spelled.{Maybe, FormFits, IsDataSet, KeepsOrDrops, KindFits}
 use Rattle.osh_back.proofs.OptionsFit.{perhaps}
 use Rattle.osh_back.proofs.OptionsStand.{Among, row_word}
 use Rattle.osh_back.proofs.ReadLists.{SoundIn}
@@ -339,12 +338,12 @@ the_form o g ws z i j h =
 import_fits : (ws : List WrittenOption) (k : OpKind) → Whole op.Import ws → kind_of op.Import (map setting_of ws) ≡ Some k → KindFits k
 import_fits ws k h e =
     with_kept KindFits (name_in (at opt.File ws)) _ k e (λ file f g. with_kept KindFits (schema_in (at opt.Schema ws)) _ k g (λ schema s m.
-        kept _ k (named_file (at opt.File ws) file (found op.Import opt.File (row opt.File form.File true 1) ws refl h.good) f, read_schema (at opt.Schema ws) schema (found op.Import opt.Schema (row opt.Schema form.Schema true 2) ws refl h.good) s, the_form op.Import 3 ws refl refl refl h) m))
+    kept _ k (named_file (at opt.File ws) file (found op.Import opt.File (row opt.File form.File true 1) ws refl h.good) f, read_schema (at opt.Schema ws) schema (found op.Import opt.Schema (row opt.Schema form.Schema true 2) ws refl h.good) s, the_form op.Import 3 ws refl refl refl h) m))
 
 export_fits : (ws : List WrittenOption) (k : OpKind) → Whole op.Export ws → kind_of op.Export (map setting_of ws) ≡ Some k → KindFits k
 export_fits ws k h e =
     with_kept KindFits (name_in (at opt.File ws)) _ k e (λ file f m.
-        kept _ k (named_file (at opt.File ws) file (found op.Export opt.File (row opt.File form.File true 1) ws refl h.good) f, the_form op.Export 2 ws refl refl refl h) m)
+    kept _ k (named_file (at opt.File ws) file (found op.Export opt.File (row opt.File form.File true 1) ws refl h.good) f, the_form op.Export 2 ws refl refl refl h) m)
 
 dsread_fits : (ws : List WrittenOption) (k : OpKind) → Whole op.Dsread ws → kind_of op.Dsread (map setting_of ws) ≡ Some k → KindFits k
 dsread_fits ws k h e = with_kept KindFits (name_in (at opt.Ds ws)) _ k e (λ ds f m. kept _ k (named_data_set (at opt.Ds ws) ds (found op.Dsread opt.Ds (row opt.Ds form.DataSet true 1) ws refl h.good) f) m)

@@ -1,12 +1,11 @@
 -- What is read as a list of columns or keys, or as a method, can be spelled as one.
-use Rattle.std.proofs.Common.{◌≡◌, ◌≤◌, ◌<◌, ◌+◌, ◌-◌, inl, inr, ℕ, List, [], ◌∷◌, ◌++◌, length, map, take, drop, Bool, true, false, refl, sym, ap, ◌∙◌, subst, append_assoc, arith, length-append}
+use Rattle.std.proofs.Common.{◌≡◌, ◌≤◌, ◌+◌, ◌-◌, inl, inr, ℕ, List, [], ◌∷◌, ◌++◌, length, map, drop, Bool, true, false, refl, sym, ap, ◌∙◌, subst, append_assoc, arith, length-append}
 use Rattle.std.specs.Prelude.{codes}
 use Rattle.std.specs.List.{AllByRecursion}
 use Rattle.std.proofs.Math.Seq.{drop-append_seam, take-append_seam}
 use Rattle.ds_value.specs.Names.{IsName}
 use Rattle.ds_lex.specs.declared.token.Mode.{Mode}
 use Rattle.ds_lex.specs.declared.token.Mode.TheVariants.{Osh, Inner}
-use Rattle.ds_lex.specs.declared.token.Sort.{Sort}
 use Rattle.ds_lex.specs.declared.token.Sort.TheVariants as sort
 use Rattle.ds_lex.specs.declared.token.Piece.{Piece}
 use Rattle.ds_lex.specs.declared.token.Piece.TheVariants.{Gap, Part}

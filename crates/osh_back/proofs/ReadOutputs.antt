@@ -1,10 +1,10 @@
 -- Each output port of operators that were read is on one link.
-use Rattle.std.proofs.Common.{◌≡◌, ◌≢◌, ◌⊎◌, ◌≤◌, ◌<◌, ◌+◌, ◌-◌, inl, inr, ℕ, zero, suc, List, [], ◌∷◌, ◌++◌, length, filter, cond, Bool, true, false, Option, Some, None, refl, sym, ap, ◌∙◌, subst, append_assoc, arith, length-append}
-use Rattle.std.specs.Prelude.{if◌then◌else◌, ◌==◌, ◌&&◌, ◌||◌, nat_lt, nat_le}
+use Rattle.std.proofs.Common.{◌≡◌, ◌≤◌, ◌<◌, ◌+◌, ◌-◌, ℕ, zero, suc, List, [], ◌∷◌, ◌++◌, length, filter, cond, Bool, true, false, Option, Some, None, refl, sym, ap, ◌∙◌, subst, arith, length-append}
+use Rattle.std.specs.Prelude.{if◌then◌else◌, ◌==◌, ◌&&◌, nat_lt}
 use Rattle.std.specs.List.{AllByRecursion}
 use Rattle.std.specs.Str.{bytes_eq}
 use Rattle.std.specs.Cmp.{first_so, second_so}
-use Rattle.std.proofs.lemmas.Bool.{eqb-true, eq-eqb, ne_eqb, and_left, false_from_ne_true, lt-ltb, le-ltb, ltb-true, ltb-false}
+use Rattle.std.proofs.lemmas.Bool.{eqb-true, eq-eqb, ne_eqb, false_from_ne_true, le-ltb, ltb-true, ltb-false}
 use Rattle.std.proofs.lemmas.Bool.Decides.{nat_tests}
 use Rattle.std.proofs.lemmas.List.Elements.{filter-append}
 use Rattle.op_base.proofs.All.{all_append, all_map, split_left, split_right}
@@ -16,7 +16,7 @@ use Rattle.osh_read.specs.declared.stage.Joint.{Joint}
 use Rattle.osh_read.specs.declared.stage.Joint.TheVariants as joint
 use Rattle.osh_read.specs.declared.stage.Stage.{Stage}
 use Rattle.osh_read.specs.declared.links.Output.{Output}
-use Rattle.osh_read.specs.Joining.{name_of, place_of, writes, reads, is_joined, unjoined_in, all_redirects, unjoined, pipe_ports, ports_before, outputs_of, outputs, source, link_from, link_of, next_input, links_of, pipe_link, links_from, links}
+use Rattle.osh_read.specs.Joining.{name_of, place_of, writes, reads, is_joined, unjoined_in, all_redirects, unjoined, pipe_ports, ports_before, outputs_of, outputs, source, link_from, links_of, pipe_link, links_from, links}
 use Rattle.osh_print.specs.LinkText.{leaves}
 use Rattle.osh_back.specs.Spelled.{HasOutputs}
 use Rattle.osh_back.proofs.OutputsBack.{ne_from}
@@ -141,9 +141,10 @@ onwards from (s ∷ ss) =
 
 apart_then : (from : ℕ) (xs ys : List Output) → PortsApart xs → PortsApart ys → AllByRecursion (λ (o : Output). o.from ≡ from) xs → AllByRecursion (λ (o : Output). from + 1 ≤ o.from) ys → PortsApart (xs ++ ys)
 apart_then from [] ys a b h k = b
-apart_then from (x ∷ xs) ys a b h k =
-    (all_append (λ (y : Output). at_port x.from x.out y ≡ false) xs ys a.0 (all_map (λ (o : Output). from + 1 ≤ o.from) (λ (y : Output). at_port x.from x.out y ≡ false) (λ y m. not_at x.from x.out y (λ e f. (let g = h.0 in absurd (omega arith)))) ys k),
-    apart_then from xs ys a.1 b h.1 k)
+apart_then from (x ∷ xs) ys a b h k = (
+  all_append (λ (y : Output). at_port x.from x.out y ≡ false) xs ys a.0 (all_map (λ (o : Output). from + 1 ≤ o.from) (λ (y : Output). at_port x.from x.out y ≡ false) (λ y m. not_at x.from x.out y (λ e f. (let g = h.0 in absurd (omega arith)))) ys k),
+  apart_then from xs ys a.1 b h.1 k,
+)
 
 ports_apart : (from : ℕ) (ss : List Stage) → PortsApart (outputs from ss)
 ports_apart from [] = tt
@@ -393,10 +394,10 @@ later_uses p from out s ss e =
 
 here_ports : (from : ℕ) (s : Stage) (ss : List Stage) → Ports from from (s ∷ ss)
 here_ports from s ss = record {
-    ports = ports_before ss + writing s.redirects;
-    each = λ out h. here_uses from out s ss ∙ each out h (nat_lt out (ports_before ss)) refl;
-    none = λ out h. here_uses from out s ss ∙ (let a : nat_lt out (ports_before ss) ≡ false = le-ltb out (ports_before ss) (omega arith) in let b = none_past from (ports_before ss) out s.redirects h in rw (a, b) refl);
-  }
+  ports = ports_before ss + writing s.redirects;
+  each = λ out h. here_uses from out s ss ∙ each out h (nat_lt out (ports_before ss)) refl;
+  none = λ out h. here_uses from out s ss ∙ (let a : nat_lt out (ports_before ss) ≡ false = le-ltb out (ports_before ss) (omega arith) in let b = none_past from (ports_before ss) out s.redirects h in rw (a, b) refl);
+}
   where
     each : (out : ℕ) → out < ports_before ss + writing s.redirects → (b : Bool) → nat_lt out (ports_before ss) ≡ b → one_if b + there (name_at from out (outputs_of from (ports_before ss) s.redirects)) ≡ 1
     each out h true e = let a = none_below from (ports_before ss) out s.redirects (ltb-true _ _ e) in rw a refl

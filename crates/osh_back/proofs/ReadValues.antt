@@ -1,5 +1,5 @@
 -- What is read as the value of an option can be spelled as one.
-use Rattle.std.proofs.Common.{◌≡◌, ◌≤◌, ◌<◌, ◌+◌, ◌-◌, inl, inr, ℕ, zero, suc, List, [], ◌∷◌, ◌++◌, length, map, take, drop, Bool, true, false, Result, Ok, Err, Option, Some, None, refl, sym, ap, ◌∙◌, subst, append_assoc, arith, length-append}
+use Rattle.std.proofs.Common.{◌≡◌, ◌≤◌, ◌-◌, inl, inr, ℕ, zero, suc, List, [], ◌∷◌, ◌++◌, length, Bool, true, false, Result, Ok, Err, Option, Some, None, refl, sym, ap, ◌∙◌, subst, append_assoc, arith, length-append}
 use Rattle.std.specs.Prelude.{if◌then◌else◌, not, ◌&&◌, ◌||◌, ◌==◌, nat_le, nat_lt, codes}
 use Rattle.std.specs.List.{AllByRecursion, list_all}
 use Rattle.std.specs.Option.{option_map}
@@ -17,7 +17,6 @@ use Rattle.ds_lex.specs.declared.token.Mode.TheVariants.{Osh, Inner}
 use Rattle.ds_lex.specs.declared.token.Sort.{Sort}
 use Rattle.ds_lex.specs.declared.token.Sort.TheVariants as sort
 use Rattle.ds_lex.specs.declared.refusal.Refusal.{Refusal}
-use Rattle.ds_lex.specs.declared.refusal.Refusal.TheVariants as refusal
 use Rattle.ds_lex.specs.Pieces.{is_digit, is_word_byte, is_text_byte, opens_word}
 use Rattle.ds_lex.specs.Lexemes.{Lexeme, lexed_text}
 use Rattle.ds_lex.specs.Reading.{◌>>=◌, refuse, accept_at, sort_at, expect_at, finish_at}
@@ -37,10 +36,10 @@ use Rattle.osh_table.specs.declared.option.Form.{Form}
 use Rattle.osh_table.specs.declared.option.Form.TheVariants as form
 use Rattle.osh_value.specs.declared.value.OptValue.{OptValue}
 use Rattle.osh_value.specs.declared.value.OptValue.TheVariants as value
-use Rattle.osh_value.specs.Values.{Inside, unquoted, content_by, content_of, file_value, schema_value, delim_value, missing_named, new_name_at, has_old, rename_at, renames_at, width_at, widths_at, with_commas, result_of, made_result, said_at, whole_at, if_read, unless_bad, inside, value_of}
+use Rattle.osh_value.specs.Values.{Inside, unquoted, content_by, content_of, schema_value, delim_value, missing_named, new_name_at, has_old, rename_at, renames_at, width_at, widths_at, with_commas, said_at, whole_at, if_read, unless_bad, inside, value_of}
 use Rattle.osh_value.proofs.Names.{tested_name}
 use Rattle.osh_read.specs.Options.{is_value}
-use Rattle.osh_sound.specs.ValueLaws.{IsColumn, IsPair, OldDiffer, IsResult, AreWidths, ArePairs, AreColumns, AreKeys}
+use Rattle.osh_sound.specs.ValueLaws.{IsPair, OldDiffer, IsResult, AreWidths, ArePairs, AreColumns, AreKeys}
 use Rattle.osh_sound.proofs.Fronts.{sort_taken, expect_taken}
 use Rattle.osh_back.specs.Spelled.{IsDelimiter, IsDataSet}
 use Rattle.osh_back.proofs.ReadLists.{SoundIn, text_sound, word_at, sound_behind, read_columns, read_keys}
