@@ -1,0 +1,12 @@
+//! The table of the functions and operators of expressions, and their exact values.
+#![tactic(auto)]
+
+mod arg;
+mod entry;
+mod holder;
+mod rows;
+
+pub use arg::{Arg, EvalFault};
+pub use entry::{Entry, FnName, Shape};
+pub use holder::Table;
+pub use rows::table;
