@@ -1,5 +1,6 @@
 -- The 53 functions and operators of expressions: name, shapes of the arguments, shape of the result.
-use Rattle.std.specs.Prelude.{◌≡◌, ℕ, ◌<◌, List, [], ◌∷◌, Some, length, take, slice_get, codes}
+use Rattle.std.specs.Prelude.{◌≡◌, ℕ, List, [], ◌∷◌, Option, Some, Bool, true, false, ◌&&◌, take, slice_get, codes, bytes_eq}
+use Rattle.std.specs.List.{position_from}
 use Rattle.expr_table.specs.declared.entry.Shape.{Shape}
 use Rattle.expr_table.specs.declared.entry.Shape.TheVariants.{Num, Text, Date, Truth, Unused}
 use Rattle.expr_table.specs.declared.entry.FnName.{FnName}
@@ -114,6 +115,30 @@ shapes e = take e.count e.args
 -- the row has this name and these arguments
 abbrev pub Has : FnName → List Shape → Entry → Type 0
 Has name args e = (e.name ≡ name) × (shapes e ≡ args)
+
+-- the same, as a test: two names are one where they are written alike
+abbrev pub is_name : FnName → FnName → Bool
+is_name a b = bytes_eq (spelled a) (spelled b)
+
+abbrev pub is_shape : Shape → Shape → Bool
+is_shape Num Num = true
+is_shape Text Text = true
+is_shape Date Date = true
+is_shape Truth Truth = true
+is_shape Unused Unused = true
+is_shape a b = false
+
+abbrev pub are_shapes : List Shape → List Shape → Bool
+are_shapes [] [] = true
+are_shapes (a ∷ more) (b ∷ others) = is_shape a b && are_shapes more others
+are_shapes more others = false
+
+abbrev pub has : FnName → List Shape → Entry → Bool
+has name args e = is_name e.name name && are_shapes (shapes e) args
+
+-- the number of the row that has them
+abbrev pub row_with : List Entry → FnName → List Shape → Option ℕ
+row_with es name args = position_from (has name args) 0 es
 
 -- no two rows have one name and the same arguments
 abbrev pub AreDistinct : List Entry → Type 0

@@ -3,10 +3,12 @@
 
 mod arg;
 mod entry;
+mod find;
 mod holder;
 mod rows;
 
 pub use arg::{Arg, EvalFault};
 pub use entry::{Entry, FnName, Shape};
+pub use find::find_row;
 pub use holder::Table;
 pub use rows::table;

@@ -5,7 +5,8 @@ use crate::{Entry, FnName, Shape, Table};
 
 /// The rows of all functions and operators.
 pub fn table() -> Table<53>
-    ensures { result ≡ rows }
+    ensures value { result ≡ rows }
+    ensures distinct { AreDistinct result }
 {
     Table::new([
         Entry {
