@@ -1,11 +1,12 @@
 -- The scale of a row's result, by the scales of its arguments; what is no Num has scale 0.
-use Rattle.std.specs.Prelude.{ℕ, zero, suc, ◌+◌, max, List, [], ◌∷◌, Option, Some, None, ◌==◌, nat_le, if◌then◌else◌, fold, sum}
+use Rattle.std.specs.Prelude.{ℕ, zero, suc, ◌+◌, max, List, [], ◌∷◌, Option, Some, None, ◌==◌, nat_le, if◌then◌else◌, sum}
 use Rattle.std.specs.List.{list_all}
 use Rattle.expr_table.specs.declared.entry.FnName.{FnName}
 use Rattle.expr_table.specs.declared.entry.FnName.TheVariants as fn
 
 abbrev pub greater_scale : List ℕ → ℕ
-greater_scale scales = fold max 0 scales
+greater_scale [] = 0
+greater_scale (s ∷ scales) = max s (greater_scale scales)
 
 -- of whole numbers alone
 abbrev pub scale_of_wholes : List ℕ → Option ℕ
