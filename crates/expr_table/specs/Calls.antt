@@ -13,12 +13,12 @@ use Rattle.expr_table.specs.declared.arg.EvalFault.TheVariants as fault
 use Rattle.expr_table.specs.TableRows.{shapes}
 use Rattle.expr_table.specs.Scales.{result_scale}
 
--- the argument has the shape and lies in its range; null has each shape
+-- null has each shape
 abbrev pub HasShape : Shape → Arg → Type 0
 HasShape shape Null = Unit {0}
-HasShape shape.Num (Num z) = unsigned_abs z < 10 ^ 38
+HasShape shape.Num (Num z) = Unit {0}
 HasShape shape.Text (Text bytes) = Unit {0}
-HasShape shape.Date (Date day) = fits_kind kind.Date (value.Date day) ≡ true
+HasShape shape.Date (Date day) = Unit {0}
 HasShape shape.Truth (Truth b) = Unit {0}
 HasShape shape other = ⊥
 
@@ -27,6 +27,18 @@ abbrev pub HaveShapes : List Shape → List Arg → Type 0
 HaveShapes [] [] = Unit {0}
 HaveShapes (shape ∷ more) (arg ∷ args) = HasShape shape arg × HaveShapes more args
 HaveShapes more args = ⊥
+
+-- a number is below 10 ^ 38 in absolute value, a date from 0001-01-01 to 9999-12-31
+abbrev pub IsInRange : Arg → Type 0
+IsInRange Null = Unit {0}
+IsInRange (Num z) = unsigned_abs z < 10 ^ 38
+IsInRange (Text bytes) = Unit {0}
+IsInRange (Date day) = fits_kind kind.Date (value.Date day) ≡ true
+IsInRange (Truth b) = Unit {0}
+
+abbrev pub AreInRange : List Arg → Type 0
+AreInRange [] = Unit {0}
+AreInRange (arg ∷ args) = IsInRange arg × AreInRange args
 
 -- a scale of an argument
 abbrev pub IsScale : Shape → ℕ → Type 0
@@ -38,14 +50,20 @@ AreScales [] [] = Unit {0}
 AreScales (shape ∷ more) (s ∷ scales) = IsScale shape s × AreScales more scales
 AreScales more scales = ⊥
 
+-- no scale is above 38
+abbrev pub AreSmall : List ℕ → Type 0
+AreSmall [] = Unit {0}
+AreSmall (s ∷ scales) = (s ≤ 38) × AreSmall scales
+
 -- the whole number that stands as the second argument
 abbrev pub second_number : List Arg → Option ℕ
 second_number (a ∷ Num (pos n) ∷ args) = Some n
 second_number args = None
 
--- a row's name is typed with the scales, and the arguments have its shapes
+-- the arguments have a row's shapes, and its name is typed with their scales
 pub record IsCall (e : Entry) (scales : List ℕ) (args : List Arg) : Type 0 where
   pub have_shapes : HaveShapes (shapes e) args
+  pub in_range : AreInRange args
   pub are_scales : AreScales (shapes e) scales
   pub is_typed : IsSome (result_scale e.name scales (second_number args))
 

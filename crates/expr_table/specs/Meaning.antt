@@ -48,8 +48,11 @@ brought from to (Num z) = number (raised from to z)
 brought from to other = Ok other
 
 -- of two arguments, brought to the greater of their scales; nulls among them
-abbrev pub of_both : List ℕ → List Arg → (Arg → Arg → Result Arg EvalFault) → Result Arg EvalFault
-of_both (s ∷ t ∷ []) (a ∷ b ∷ []) f = brought s (max s t) a >>= λ x. brought t (max s t) b >>= λ y. f x y
+abbrev pub of_two : {A : Type 0} → ℕ → ℕ → Arg → Arg → (Arg → Arg → Result A EvalFault) → Result A EvalFault
+of_two s t a b f = brought s (max s t) a >>= λ x. brought t (max s t) b >>= λ y. f x y
+
+abbrev pub of_both : {A : Type 0} → List ℕ → List Arg → (Arg → Arg → Result A EvalFault) → Result A EvalFault
+of_both (s ∷ t ∷ []) (a ∷ b ∷ []) f = of_two s t a b f
 of_both scales args f = Err NullUsed
 
 -- of two numbers, brought to the greater of their scales
@@ -89,9 +92,13 @@ as_value (Text bytes) = value.Text bytes
 as_value (Date day) = value.Date day
 as_value other = value.Null
 
--- whether the order of two arguments is such, null below the rest
+-- the order of two arguments, null below the rest
+abbrev pub order_of : List ℕ → List Arg → Result Ordering EvalFault
+order_of scales args = of_both scales args (λ x y. Ok (value_cmp (as_value x) (as_value y)))
+
+-- whether that order passes
 abbrev pub compared : (Ordering → Bool) → List ℕ → List Arg → Result Arg EvalFault
-compared test scales args = of_both scales args (λ x y. Ok (Truth (test (value_cmp (as_value x) (as_value y)))))
+compared test scales args = order_of scales args >>= λ order. Ok (Truth (test order))
 
 abbrev pub is_equal : Ordering → Bool
 is_equal ordering.Equal = true
@@ -205,3 +212,24 @@ value_of fn.Month scales args = of_date args (λ day. number (pos (month_of day)
 value_of fn.Day scales args = of_date args (λ day. number (pos (day_of day)))
 value_of fn.DayNumber scales args = of_date args number
 value_of fn.AddDays scales args = later_date args
+
+-- the names whose rows compare two arguments
+abbrev pub IsComparison : FnName → Type 0
+IsComparison fn.Equal = Unit {0}
+IsComparison fn.NotEqual = Unit {0}
+IsComparison fn.Less = Unit {0}
+IsComparison fn.AtMost = Unit {0}
+IsComparison fn.Greater = Unit {0}
+IsComparison fn.AtLeast = Unit {0}
+IsComparison name = ⊥
+
+-- the names whose rows reckon with two numbers, or with dates
+abbrev pub IsArithmetic : FnName → Type 0
+IsArithmetic fn.Plus = Unit {0}
+IsArithmetic fn.Minus = Unit {0}
+IsArithmetic fn.Times = Unit {0}
+IsArithmetic fn.Divide = Unit {0}
+IsArithmetic fn.Remainder = Unit {0}
+IsArithmetic fn.Least = Unit {0}
+IsArithmetic fn.Greatest = Unit {0}
+IsArithmetic name = ⊥

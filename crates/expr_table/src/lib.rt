@@ -2,9 +2,12 @@
 #![tactic(auto)]
 
 mod arg;
+mod arithmetic;
+mod compare;
 mod entry;
 mod find;
 mod holder;
+mod number;
 mod rows;
 mod scale;
 
