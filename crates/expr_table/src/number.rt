@@ -1,6 +1,5 @@
-ghost use Rattle.std.specs.Prelude.{◌≡◌, ◌≤◌, ◌<◌, ◌^◌, ◌+ℤ◌, ◌-ℤ◌, ◌*ℤ◌, neg_ℤ, pos, unsigned_abs, int_div, int_rem, Err, if◌then◌else◌};
-ghost use Rattle.std.specs.Ordering.{int_eq};
-ghost use Rattle.expr_table.specs.Meaning.{bounded, number, raised, nearest, nearest_ℤ};
+ghost use Rattle.std.specs.Prelude.{◌≡◌, ◌≤◌, ◌<◌, ◌^◌, ◌+ℤ◌, ◌-ℤ◌, ◌*ℤ◌, neg_ℤ, pos, unsigned_abs, int_div, int_rem};
+ghost use Rattle.expr_table.specs.Meaning.{bounded, number, raised, divided, nearest, nearest_ℤ};
 
 use crate::{Arg, EvalFault};
 
@@ -64,9 +63,18 @@ pub fn product(a: i128, b: i128) -> Result<Arg, EvalFault>
     }
 }
 
+pub fn negated(a: i128) -> Result<Arg, EvalFault>
+    ensures { result ≡ number (neg_ℤ a) }
+{
+    match a.checked_neg() {
+        Some(negated) => number(negated),
+        None => Err(EvalFault::Overflow),
+    }
+}
+
 pub fn quotient(a: i128, b: i128) -> Result<Arg, EvalFault>
     requires { unsigned_abs a < 10 ^ 38 }
-    ensures { result ≡ (if int_eq b (pos 0) then Err EvalFault.ZeroDivisor else number (int_div a b)) }
+    ensures { result ≡ divided int_div a b }
 {
     if b == 0 {
         return Err(EvalFault::ZeroDivisor);
@@ -76,12 +84,21 @@ pub fn quotient(a: i128, b: i128) -> Result<Arg, EvalFault>
 
 pub fn remainder(a: i128, b: i128) -> Result<Arg, EvalFault>
     requires { unsigned_abs a < 10 ^ 38 }
-    ensures { result ≡ (if int_eq b (pos 0) then Err EvalFault.ZeroDivisor else number (int_rem a b)) }
+    ensures { result ≡ divided int_rem a b }
 {
     if b == 0 {
         return Err(EvalFault::ZeroDivisor);
     }
     number(a % b)
+}
+
+fn ten_to(digits: u8) -> u128
+    requires { digits ≤ 38 }
+    ensures value { result ≡ 10 ^ digits }
+    ensures some { 0 < result }
+    ensures limit { result ≤ 10 ^ 38 }
+{
+    10_u128.pow(u32::from(digits))
 }
 
 fn nearest(n: u128, divisor: u128) -> u128
@@ -104,6 +121,6 @@ pub fn rounded(n: i128, digits: u8) -> Result<Arg, EvalFault>
     requires number { unsigned_abs n < 10 ^ 38 }
     ensures { result ≡ number (nearest_ℤ n (10 ^ digits)) }
 {
-    let nearest = nearest(n.unsigned_abs(), 10_u128.pow(u32::from(digits))) as i128;
+    let nearest = nearest(n.unsigned_abs(), ten_to(digits)) as i128;
     number(if n < 0 { -nearest } else { nearest })
 }
