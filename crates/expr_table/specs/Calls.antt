@@ -1,5 +1,5 @@
 -- What a row may be applied to, and what it then answers.
-use Rattle.std.specs.Prelude.{◌≡◌, ◌<◌, ◌≤◌, ℕ, ◌^◌, ℤ, pos, negsuc, unsigned_abs, true, List, [], ◌∷◌, Option, Some, None, Result, Ok, Err, IsSome}
+use Rattle.std.specs.Prelude.{◌≡◌, ◌<◌, ◌≤◌, ℕ, ◌^◌, ℤ, pos, negsuc, unsigned_abs, true, List, [], ◌∷◌, Option, Some, None, Result, Err, ◌≢◌, IsSome}
 use Rattle.ds_value.specs.declared.kind.Kind.TheVariants as kind
 use Rattle.ds_value.specs.declared.value.Value.TheVariants as value
 use Rattle.ds_value.specs.Kinds.{fits_kind}
@@ -67,7 +67,6 @@ pub record IsCall (e : Entry) (scales : List ℕ) (args : List Arg) : Type 0 whe
   pub are_scales : AreScales (shapes e) scales
   pub is_typed : IsSome (result_scale e.name scales (second_number args))
 
--- exactly this value or fault; only want of memory is free
-abbrev pub Answers : Result Arg EvalFault → Result Arg EvalFault → Type 0
-Answers (Err fault.Memory) value = Unit {0}
-Answers answer value = answer ≡ value
+-- exactly this value or fault, but for want of memory, which is free
+abbrev pub Answers : {A : Type 0} → Result A EvalFault → Result A EvalFault → Type 0
+Answers answer value = answer ≢ Err fault.Memory → answer ≡ value

@@ -233,3 +233,13 @@ IsArithmetic fn.Remainder = Unit {0}
 IsArithmetic fn.Least = Unit {0}
 IsArithmetic fn.Greatest = Unit {0}
 IsArithmetic name = ⊥
+
+-- the names whose rows choose, or join truths
+abbrev pub IsChoice : FnName → Type 0
+IsChoice fn.And = Unit {0}
+IsChoice fn.Or = Unit {0}
+IsChoice fn.Not = Unit {0}
+IsChoice fn.IsNull = Unit {0}
+IsChoice fn.IfNull = Unit {0}
+IsChoice fn.If = Unit {0}
+IsChoice name = ⊥

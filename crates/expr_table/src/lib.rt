@@ -3,6 +3,7 @@
 
 mod arg;
 mod arithmetic;
+mod choose;
 mod compare;
 mod entry;
 mod find;
