@@ -243,3 +243,28 @@ IsChoice fn.IsNull = Unit {0}
 IsChoice fn.IfNull = Unit {0}
 IsChoice fn.If = Unit {0}
 IsChoice name = ⊥
+
+-- the names whose rows have one number, the literal of round aside
+abbrev pub IsOfNumber : FnName → Type 0
+IsOfNumber fn.Abs = Unit {0}
+IsOfNumber fn.Sign = Unit {0}
+IsOfNumber fn.Round = Unit {0}
+IsOfNumber fn.Text = Unit {0}
+IsOfNumber name = ⊥
+
+-- the names whose rows have texts
+abbrev pub IsOfText : FnName → Type 0
+IsOfText fn.Length = Unit {0}
+IsOfText fn.Concat = Unit {0}
+IsOfText fn.Substr = Unit {0}
+IsOfText fn.Trim = Unit {0}
+IsOfText name = ⊥
+
+-- the names whose rows have a date first
+abbrev pub IsOfDate : FnName → Type 0
+IsOfDate fn.Year = Unit {0}
+IsOfDate fn.Month = Unit {0}
+IsOfDate fn.Day = Unit {0}
+IsOfDate fn.DayNumber = Unit {0}
+IsOfDate fn.AddDays = Unit {0}
+IsOfDate name = ⊥

@@ -4,13 +4,16 @@
 mod arg;
 mod arithmetic;
 mod choose;
+mod civil;
 mod compare;
+mod dates;
 mod entry;
 mod find;
 mod holder;
 mod number;
 mod rows;
 mod scale;
+mod single;
 
 pub use arg::{Arg, EvalFault};
 pub use entry::{Entry, FnName, Shape};
