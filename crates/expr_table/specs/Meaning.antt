@@ -159,7 +159,7 @@ joined args = Err NullUsed
 
 -- up to n bytes from the byte `from`, where the first is 1
 abbrev pub part_of : List Arg → Result Arg EvalFault
-part_of (Text bytes ∷ Num from ∷ Num n ∷ []) = Ok (Text (take (unsigned_abs (int_max (pos 0) n)) (drop (unsigned_abs (int_max (pos 1) from) - 1) bytes)))
+part_of (Text bytes ∷ Num from ∷ Num n ∷ []) = Ok (Text (take (unsigned_abs (int_max n (pos 0))) (drop (unsigned_abs (int_max from (pos 1)) - 1) bytes)))
 part_of args = Err NullUsed
 
 abbrev pub without_front_spaces : List ℕ → List ℕ

@@ -1,4 +1,4 @@
-ghost use Rattle.std.specs.Prelude.{◌≡◌, true, IfOk, []};
+ghost use Rattle.std.specs.Prelude.{◌≡◌, true, IfOk, List, ℕ};
 ghost use Rattle.ds_value.specs.declared.kind.Kind.TheVariants as kind;
 ghost use Rattle.ds_value.specs.declared.value.Value.TheVariants as value;
 ghost use Rattle.ds_value.specs.Kinds.{fits_kind};
@@ -45,7 +45,7 @@ fn later(args: &[Arg]) -> Result<Arg, EvalFault>
 pub fn of_date(name: FnName, args: &[Arg]) -> Result<Arg, EvalFault>
     requires name { IsOfDate name }
     requires range { AreInRange args.now }
-    ensures { result ≡ value_of name [] args.now }
+    ensures { (scales : List ℕ) → result ≡ value_of name scales args.now }
 {
     macro_rules! of {
         ($day:ident => $value:expr) => {{

@@ -14,6 +14,7 @@ mod number;
 mod rows;
 mod scale;
 mod single;
+mod texts;
 
 pub use arg::{Arg, EvalFault};
 pub use entry::{Entry, FnName, Shape};
