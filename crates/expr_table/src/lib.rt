@@ -1,6 +1,7 @@
 //! The table of the functions and operators of expressions, and their exact values.
 #![tactic(auto)]
 
+mod applied;
 mod arg;
 mod arithmetic;
 mod choose;
@@ -16,6 +17,7 @@ mod scale;
 mod single;
 mod texts;
 
+pub use applied::apply;
 pub use arg::{Arg, EvalFault};
 pub use entry::{Entry, FnName, Shape};
 pub use find::find_row;
