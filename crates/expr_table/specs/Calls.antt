@@ -1,5 +1,5 @@
 -- What a row may be applied to, and what it then answers.
-use Rattle.std.specs.Prelude.{◌≡◌, ◌<◌, ◌≤◌, ℕ, ◌^◌, ℤ, pos, negsuc, unsigned_abs, true, List, [], ◌∷◌, Option, Some, None, Result, Err, ◌≢◌, IsSome}
+use Rattle.std.specs.Prelude.{◌≡◌, ◌≢◌, ◌<◌, ◌≤◌, ℕ, ◌^◌, unsigned_abs, true, List, [], ◌∷◌, Some, Result, Ok, Err, slice_get}
 use Rattle.ds_value.specs.declared.kind.Kind.TheVariants as kind
 use Rattle.ds_value.specs.declared.value.Value.TheVariants as value
 use Rattle.ds_value.specs.Kinds.{fits_kind}
@@ -10,8 +10,8 @@ use Rattle.expr_table.specs.declared.arg.Arg.{Arg}
 use Rattle.expr_table.specs.declared.arg.Arg.TheVariants.{Null, Num, Text, Date, Truth}
 use Rattle.expr_table.specs.declared.arg.EvalFault.{EvalFault}
 use Rattle.expr_table.specs.declared.arg.EvalFault.TheVariants as fault
-use Rattle.expr_table.specs.TableRows.{shapes}
-use Rattle.expr_table.specs.Scales.{result_scale}
+use Rattle.expr_table.specs.TableRows.{rows, shapes}
+use Rattle.expr_table.specs.Meaning.{value_of}
 
 -- null has each shape
 abbrev pub HasShape : Shape → Arg → Type 0
@@ -40,33 +40,15 @@ abbrev pub AreInRange : List Arg → Type 0
 AreInRange [] = Unit {0}
 AreInRange (arg ∷ args) = IsInRange arg × AreInRange args
 
--- a scale of an argument
-abbrev pub IsScale : Shape → ℕ → Type 0
-IsScale shape.Num s = s ≤ 38
-IsScale other s = s ≡ 0
-
-abbrev pub AreScales : List Shape → List ℕ → Type 0
-AreScales [] [] = Unit {0}
-AreScales (shape ∷ more) (s ∷ scales) = IsScale shape s × AreScales more scales
-AreScales more scales = ⊥
-
 -- no scale is above 38
 abbrev pub AreSmall : List ℕ → Type 0
 AreSmall [] = Unit {0}
 AreSmall (s ∷ scales) = (s ≤ 38) × AreSmall scales
 
--- the whole number that stands as the second argument
-abbrev pub second_number : List Arg → Option ℕ
-second_number (a ∷ Num (pos n) ∷ args) = Some n
-second_number args = None
-
--- the arguments have a row's shapes, and its name is typed with their scales
-pub record IsCall (e : Entry) (scales : List ℕ) (args : List Arg) : Type 0 where
-  pub have_shapes : HaveShapes (shapes e) args
-  pub in_range : AreInRange args
-  pub are_scales : AreScales (shapes e) scales
-  pub is_typed : IsSome (result_scale e.name scales (second_number args))
-
 -- exactly this value or fault, but for want of memory, which is free
 abbrev pub Answers : {A : Type 0} → Result A EvalFault → Result A EvalFault → Type 0
 Answers answer value = answer ≢ Err fault.Memory → answer ≡ value
+
+-- what a row gives for arguments of its shapes has the shape of its result, and lies in its range
+abbrev pub ResultsFit : Type 0
+ResultsFit = (row : ℕ) (e : Entry) (scales : List ℕ) (args : List Arg) (v : Arg) → slice_get rows row ≡ Some e → HaveShapes (shapes e) args → AreInRange args → value_of e.name scales args ≡ Ok v → HasShape e.result v × IsInRange v
