@@ -1,6 +1,7 @@
 ghost use Rattle.std.specs.Prelude.{◌≡◌, ◌<◌, ◌^◌, IfOk, unsigned_abs};
 ghost use Rattle.expr_table.specs.Calls.{AreSmall, AreInRange};
-ghost use Rattle.expr_table.specs.Meaning.{difference, numbers, units, value_of, IsArithmetic};
+ghost use Rattle.expr_table.specs.Groups.{IsArithmetic};
+ghost use Rattle.expr_table.specs.Meaning.{difference, numbers, units, value_of};
 
 use crate::number::{difference, negated, number, product, quotient, raised, remainder, sum};
 use crate::{Arg, EvalFault, FnName};

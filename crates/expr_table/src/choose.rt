@@ -1,6 +1,7 @@
 ghost use Rattle.std.specs.Prelude.{◌≡◌, ◌≤◌, Ok};
 ghost use Rattle.expr_table.specs.Calls.{AreSmall, Answers};
-ghost use Rattle.expr_table.specs.Meaning.{brought, choice, first_given, null_test, of_both, one_truth, two_truths, value_of, IsChoice};
+ghost use Rattle.expr_table.specs.Groups.{IsChoice};
+ghost use Rattle.expr_table.specs.Meaning.{brought, choice, first_given, null_test, of_both, one_truth, two_truths, value_of};
 
 use crate::number::raised;
 use crate::{Arg, EvalFault, FnName};

@@ -1,7 +1,8 @@
 ghost use Rattle.std.specs.Prelude.{◌≡◌, ◌≤◌, Ok};
 ghost use Rattle.ds_value.specs.Values.{value_cmp};
 ghost use Rattle.expr_table.specs.Calls.{AreSmall};
-ghost use Rattle.expr_table.specs.Meaning.{as_value, of_two, order_of, value_of, IsComparison};
+ghost use Rattle.expr_table.specs.Groups.{IsComparison};
+ghost use Rattle.expr_table.specs.Meaning.{as_value, of_two, order_of, value_of};
 
 use crate::number::raised;
 use crate::{Arg, EvalFault, FnName};

@@ -3,7 +3,8 @@ ghost use Rattle.ds_value.specs.declared.kind.Kind.TheVariants as kind;
 ghost use Rattle.ds_value.specs.declared.value.Value.TheVariants as value;
 ghost use Rattle.ds_value.specs.Kinds.{fits_kind};
 ghost use Rattle.expr_table.specs.Calls.{AreInRange};
-ghost use Rattle.expr_table.specs.Meaning.{date, later_date, one_date, value_of, IsOfDate};
+ghost use Rattle.expr_table.specs.Groups.{IsOfDate};
+ghost use Rattle.expr_table.specs.Meaning.{date, later_date, one_date, value_of};
 
 use crate::civil::civil_date;
 use crate::number::number;

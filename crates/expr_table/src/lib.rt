@@ -26,3 +26,6 @@ pub use holder::Table;
 pub use laws::results_fit;
 pub use rows::table;
 pub use scale::result_scale;
+
+#[cfg(test)]
+mod tests;

@@ -2,7 +2,8 @@ ghost use Rattle.std.specs.Prelude.{◌≡◌, ◌-◌, ℕ, List, pos, unsigned
 ghost use Rattle.expr_table.specs.declared.arg.Arg.TheVariants as arg;
 ghost use Rattle.std.specs.Int.{int_max};
 ghost use Rattle.expr_table.specs.Calls.{Answers};
-ghost use Rattle.expr_table.specs.Meaning.{joined, value_of, without_front_spaces, without_spaces, IsOfText};
+ghost use Rattle.expr_table.specs.Groups.{IsOfText};
+ghost use Rattle.expr_table.specs.Meaning.{joined, value_of, without_front_spaces, without_spaces};
 
 use crate::number::number;
 use crate::{Arg, EvalFault, FnName};
