@@ -1,6 +1,6 @@
 -- Where NullUsed comes.
-use Rattle.std.proofs.Common.{◌≡◌, ◌≢◌, ◌^◌, Bool, true, false, List, [], ◌∷◌, ℕ, ◌-◌, ℤ, unsigned_abs, Result, Ok, Err, refl, arith, length, max, nat_lt, nat_le, ◌++◌}
-use Rattle.std.specs.Prelude.{◌↔◌, ◌-ℤ◌, ◌+ℤ◌, neg_ℤ, pos, if◌then◌else◌}
+use Rattle.std.proofs.Common.{◌≡◌, ◌≢◌, ◌^◌, Bool, true, false, List, [], ◌∷◌, ℕ, ℤ, unsigned_abs, Result, Ok, Err, arith, length, max, nat_lt, nat_le}
+use Rattle.std.specs.Prelude.{◌↔◌, pos, if◌then◌else◌}
 use Rattle.std.specs.Ordering.{int_eq}
 use Rattle.ds_value.specs.declared.kind.Kind.TheVariants as kind
 use Rattle.ds_value.specs.declared.value.Value.TheVariants as value

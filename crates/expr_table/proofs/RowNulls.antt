@@ -1,6 +1,6 @@
 -- Each row's fault is NullUsed exactly where null is misused.
-use Rattle.std.proofs.Common.{◌≡◌, ◌^◌, Bool, true, false, List, [], ◌∷◌, ℕ, zero, suc, ◌-◌, ℤ, unsigned_abs, Some, Ok, Err, refl, subst, length, max, slice_get, ◌++◌}
-use Rattle.std.specs.Prelude.{◌↔◌, ◌-ℤ◌, ◌+ℤ◌, ◌*ℤ◌, neg_ℤ, pos, not, int_div, int_rem}
+use Rattle.std.proofs.Common.{◌≡◌, ◌^◌, Bool, true, false, List, [], ◌∷◌, ℕ, zero, suc, ◌-◌, ℤ, unsigned_abs, Some, Ok, refl, subst, length, max, slice_get, ◌++◌}
+use Rattle.std.specs.Prelude.{◌-ℤ◌, ◌+ℤ◌, ◌*ℤ◌, neg_ℤ, pos, not, int_div, int_rem}
 use Rattle.std.specs.Int.{int_min, int_max, int_signum}
 use Rattle.std.specs.declared.cmp.Ordering.{Ordering}
 use Rattle.ds_value.specs.Calendar.{year_of, month_of, day_of}
@@ -9,7 +9,7 @@ use Rattle.expr_table.specs.declared.entry.Shape.TheVariants as shape
 use Rattle.expr_table.specs.declared.entry.FnName.TheVariants as fn
 use Rattle.expr_table.specs.declared.entry.Entry.{Entry}
 use Rattle.expr_table.specs.declared.arg.Arg.{Arg}
-use Rattle.expr_table.specs.declared.arg.Arg.TheVariants.{Null, Num, Text, Date, Truth}
+use Rattle.expr_table.specs.declared.arg.Arg.TheVariants.{Num, Text, Date, Truth}
 use Rattle.expr_table.specs.Calls.{NullsAreExact}
 use Rattle.expr_table.specs.Meaning.{◌>>=◌, bounded, number, raised, numbers, order_of, compared, as_value, is_equal, is_less, is_greater, first_given, choice, nearest_ℤ}
 use Rattle.expr_table.specs.TableRows.{rows, shapes}

@@ -28,4 +28,6 @@ pub use rows::table;
 pub use scale::result_scale;
 
 #[cfg(test)]
+mod edges;
+#[cfg(test)]
 mod tests;
