@@ -11,15 +11,16 @@ use Rattle.flow_score.specs.Seating.{Seats}
 use Rattle.flow_shape.specs.Refusals.{IsShapeOf}
 use Rattle.osh_call.specs.Stages.{IsBuiltShape}
 use Rattle.osh_ends.specs.Built.{is_built}
-use Rattle.osh_sound.specs.Sound.{KeepsMarks, ReadKeepsMarks}
+use Rattle.osh_sound.specs.Sound.{KeepsForms, KeepsMarks, ReadKeepsForms, ReadKeepsMarks}
 use Rattle.run_feed.specs.Fed.{IsReady}
 
-pub is_ready : (c : Chart) (choices : List Choice) (nodes players : ℕ) (states : List State) → ReadKeepsMarks → IsBuiltShape c → 0 < nodes → IsVerdict false c (Accepted states choices) → Seats c choices nodes players → IsReady c choices nodes
-is_ready c choices nodes players states keeps b some verdict seats = record {
+pub is_ready : (c : Chart) (choices : List Choice) (nodes players : ℕ) (states : List State) → ReadKeepsMarks → ReadKeepsForms → IsBuiltShape c → 0 < nodes → IsVerdict false c (Accepted states choices) → Seats c choices nodes players → IsReady c choices nodes
+is_ready c choices nodes players states keeps forms b some verdict seats = record {
   some = some;
   built = subst (λ (f : Flow). is_built f ≡ true) (sym b.shape.same) b.read.is.built;
   shape_of = subst (λ (f : Flow). IsShapeOf f [] c) (sym b.shape.same) b.shape;
   marks = subst KeepsMarks (sym b.shape.same) (keeps b.read.text b.flow b.read.is.spelled);
+  forms = subst KeepsForms (sym b.shape.same) (forms b.read.text b.flow b.read.is.spelled);
   states = states;
   verdict = verdict;
   players = players;
