@@ -226,7 +226,10 @@ fn each_failing_call_is_told(rt: HostRuntime) -> Result<(), Fail> {
         let mut err = MemSink::new(alloc, None, FailsAt::new(vec![in alloc; told]?));
         let answered = osh_still(alloc, &words, &mut files, &mut out, &mut err);
         assert_eq!(rt; answered.0, status);
-        assert_eq!(rt; files.look_up(b"out.txt").is_some(), status == 0 || printed < 99);
+        assert_eq!(rt;
+            files.look_up(b"out.txt").is_some(),
+            status == 0 || printed < 99
+        );
     }
     Ok(())
 }

@@ -2,16 +2,16 @@
 #![tactic(auto)]
 
 mod answer;
-mod err_line;
 mod checking;
+mod err_line;
 mod stages;
 mod telling;
 
 pub use answer::Answer;
-pub use telling::{check, tell};
 pub use checking::{judged, shaped};
 pub use err_line::{say, status};
 pub use stages::{absent, flow_at, nodes_at};
+pub use telling::{check, tell};
 
 #[cfg(test)]
 mod tests;

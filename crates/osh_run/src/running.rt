@@ -5,8 +5,8 @@ ghost use Rattle.ds_port.specs.Causes.{Rose};
 ghost use Rattle.osh_ends.specs.Ends.{RunsFile};
 ghost use Rattle.osh_call.specs.Answers.{Serves};
 
-use crate::stages::prepare;
 use crate::seating::run_seated;
+use crate::stages::prepare;
 use ds_port::{Files, Sink};
 use ds_value::Name;
 use flow_rules::Verdict;
