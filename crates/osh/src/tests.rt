@@ -109,7 +109,7 @@ const RUNS: [Run; 8] = [
         status: 0,
         out: b"score nodes 4\nop 0 import seq 1\nop 1 tsort par 4\nop 2 remdup par 4\nop 3 export seq 1\nlink 0 0.0 1.0 hash(id)\nlink 1 1.0 2.0 same\nlink 2 2.0 3.0 any\nplayers 10\nverdict accepted\nlink 0 agree(id) hash(id) sort()\nlink 1 agree(id) hash(id) sort(id)\nlink 2 agree(id) solo sort()\nsink 3 by id\ncount 0 6\ncount 1 6\ncount 2 4\nstatus 0\n",
         err: b"",
-        written: Some(b"3,kyiv\n2,rome\n1,oslo\n4,rome\n"),
+        written: Some(b"4,rome\n3,kyiv\n2,rome\n1,oslo\n"),
     },
     Run {
         flow: FIRST_PER_KEY,
