@@ -6,8 +6,8 @@ use Rattle.osh_call.specs.declared.answer.Answer.TheVariants as answer
 use Rattle.osh_call.specs.Answers.{Answers, Serves}
 use Rattle.osh_call.specs.Saying.{err_line, answer_status, IsMade, SaidAs}
 use Rattle.osh_ends.specs.Ends.{End, ComesTo, OneStatus, end_status, absent, bad_config, bad_flow, bad_shape, crowded, mismatch}
-use Rattle.osh_ends.specs.Leaves.{Broke, Ended, IsComplete, IsExact, Leaves, Runs, line, outputs, printed, with_files}
-use Rattle.osh.specs.Calls.{IsStatus}
+use Rattle.osh_ends.specs.Leaves.{Broke, Ended, IsComplete, IsExact, Leaves, Runs, Tells, line, outputs, printed, with_files}
+use Rattle.osh.specs.Calls.{Calls, IsStatus}
 
 -- an answer's line and status are those of its end
 line_is : (a : Answer) (end : End) → Answers a end → err_line a ≡ line end
@@ -130,3 +130,10 @@ is_device answer.Memory h = absurd (omega (arith, h))
 pub said_device : (a said : Answer) → SaidAs a said → answer_status said ≡ 10 → a ≡ answer.Device
 said_device a said (inl e) h = sym e ∙ is_device said h
 said_device a said (inr e) h = let same = sym (e.0) ∙ is_device said h in absurd (cc same)
+
+-- the whole call, from how it was served and what was said
+pub said_calls : (words : List (List ℕ)) (old new : FileMap) (tells : Bool) (out_old out_new : List ℕ) (files_rose out_rose : Type 0) (err_tells : Bool) (err_before err_now : ℕ) (err_old err_new : List ℕ) (a said : Answer) (status : ℕ)
+    → Serves (ComesTo words old) old new tells out_old out_new files_rose out_rose a → SaidAs a said → status ≡ answer_status said → (IsTrue err_tells → Tells (err_line said) err_before err_now err_old err_new)
+    → Calls words old new tells out_old out_new files_rose out_rose err_tells err_before err_now err_old err_new status
+said_calls words old new tells out_old out_new files_rose out_rose err_tells err_before err_now err_old err_new a said status s said_as is told =
+    (err_line said, subst (Runs words old new tells out_old out_new files_rose out_rose (err_line said)) (sym is) (said_runs words old new tells out_old out_new files_rose out_rose a said s said_as), told)

@@ -19,14 +19,18 @@ fn obey<F: Files, O: Sink>(alloc: Global, files: &mut F, out: &mut O, command: &
     match command {
         Command::Check(flow) => check(alloc, files, out, flow),
         Command::Run {
-            serial: true,
+            serial,
             flow,
             config,
             ..
-        } => run(alloc, files, out, flow, config),
-        Command::Run { .. } | Command::Score(..) | Command::Meaning(_) | Command::Gen { .. } => {
-            Answer::Unbuilt
+        } => {
+            if *serial {
+                run(alloc, files, out, flow, config)
+            } else {
+                Answer::Unbuilt
+            }
         }
+        Command::Score(..) | Command::Meaning(_) | Command::Gen { .. } => Answer::Unbuilt,
     }
 }
 
