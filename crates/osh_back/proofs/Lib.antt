@@ -12,3 +12,4 @@ pub mod ReadValues
 pub mod ReadKinds
 pub mod ReadOutputs
 pub mod ReadFlows
+pub mod WorkedPrints

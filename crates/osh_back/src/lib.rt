@@ -2,7 +2,13 @@
 //! be spelled: each function does nothing, and its contract is the law.
 #![tactic(auto)]
 
+#[cfg(test)]
+mod tests;
+mod worked;
+
 ghost use Rattle.osh_back.specs.BackLaws.{PrintedReadsBack, ReadCanBeSpelled};
+
+pub use worked::printed_texts;
 
 /// The printed text of a flow that can be spelled is read as the flow.
 pub fn printed_reads_back()
