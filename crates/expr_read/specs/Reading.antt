@@ -1,8 +1,11 @@
 -- An expression read from left to right. A reader gives an expression and the tokens behind it, or the tokens that are left
 -- where no expression goes on.
 use Rattle.std.specs.Prelude.{◌≡◌, ℕ, zero, suc, ◌-◌, List, [], ◌∷◌, ◌++◌, length, take, drop, Bool, true, false, if◌then◌else◌, Option, Some, None, Result, Ok, Err}
-use Rattle.ds_lex.specs.Lexemes.{Lexeme}
-use Rattle.ds_lex.specs.Reading.{◌>>=◌}
+use Rattle.ds_lex.specs.declared.token.Mode.TheVariants.{Inner}
+use Rattle.ds_lex.specs.Lexemes.{Lexeme, lexed_text}
+use Rattle.ds_lex.specs.Reading.{◌>>=◌, next_place}
+use Rattle.expr_read.specs.declared.fault.ExprFault.{ExprFault}
+use Rattle.expr_read.specs.declared.fault.ExprFault.TheVariants as fault
 use Rattle.expr_read.specs.declared.tree.Infix.{Infix}
 use Rattle.expr_read.specs.declared.tree.Prefix.{Prefix}
 use Rattle.expr_read.specs.declared.tree.Prefix.TheVariants as before
@@ -202,9 +205,39 @@ abbrev pub chain_at : ℕ → Level → Reader
 chain_at n l = chain_from l (part_at n l)
 
 -- all the tokens
-abbrev pub finished : Expr × List Lexeme → Result Expr (List Lexeme)
-finished (e, []) = Ok e
-finished (e, t ∷ ts) = Err (t ∷ ts)
+abbrev pub nothing_left : Expr → List Lexeme → Result Expr (List Lexeme)
+nothing_left e [] = Ok e
+nothing_left e (t ∷ ts) = Err (t ∷ ts)
 
-unfoldable pub whole_at : List Lexeme → Result Expr (List Lexeme)
-whole_at ts = chain_at 64 level.Or ts >>= finished
+unfoldable pub whole_at : ℕ → List Lexeme → Result Expr (List Lexeme)
+whole_at n ts = chain_at n level.Or ts >>= λ x. nothing_left x.0 x.1
+
+-- where the tokens end: at a place where none begins, or else at the end of the text
+abbrev pub end_place : Option ℕ → ℕ → ℕ
+end_place None len = len
+end_place (Some at) len = at
+
+-- what is read of a text with these tokens
+abbrev pub settled : Option ℕ → ℕ → Result Expr (List Lexeme) → Result Expr ℕ
+settled bad len (Err left) = Err (next_place (end_place bad len) left)
+settled None len (Ok e) = Ok e
+settled (Some at) len (Ok e) = Err at
+
+-- how many brackets and signs may be open at an atom
+abbrev pub most_open : ℕ
+most_open = 64
+
+unfoldable pub expr_of : List ℕ → Result Expr ℕ
+expr_of text = settled (lexed_text Inner text).bad (length text) (whole_at most_open (lexed_text Inner text).lexemes)
+
+-- What was answered is what is read, unless memory ran out.
+abbrev pub Answers : Result Expr ExprFault → Result Expr ℕ → Type 0
+Answers (Ok e) read = read ≡ Ok e
+Answers (Err (fault.Syntax at)) read = read ≡ Err at
+Answers (Err fault.Memory) read = Unit {0}
+
+-- what a call answered that left these tokens
+abbrev pub Ends : Result Expr Halt → List Lexeme → Result Expr (List Lexeme) → Type 0
+Ends (Ok e) left read = read ≡ Ok e
+Ends (Err halt.Stuck) left read = read ≡ Err left
+Ends (Err halt.Memory) left read = Unit {0}

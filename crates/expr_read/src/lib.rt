@@ -6,6 +6,8 @@ mod halt;
 mod operand;
 mod tree;
 mod what;
+mod whole;
 
 pub use fault::ExprFault;
 pub use tree::{Expr, Infix, Link, Prefix};
+pub use whole::parse;
