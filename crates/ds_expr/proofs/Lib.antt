@@ -1,0 +1,5 @@
+pub mod Digits
+pub mod Dates
+pub mod Uses
+pub mod Trees
+pub mod Sound
