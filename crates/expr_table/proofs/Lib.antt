@@ -1,3 +1,5 @@
 pub mod Examples
 pub mod Names
 pub mod Found
+pub mod Results
+pub mod RowResults

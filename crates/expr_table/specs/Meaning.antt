@@ -48,39 +48,42 @@ brought from to (Num z) = number (raised from to z)
 brought from to other = Ok other
 
 -- of two arguments, brought to the greater of their scales; nulls among them
-abbrev pub of_both : List ℕ → List Arg → (Arg → Arg → Result Arg EvalFault) → Result Arg EvalFault
-of_both (s ∷ t ∷ []) (a ∷ b ∷ []) f = brought s (max s t) a >>= λ x. brought t (max s t) b >>= λ y. f x y
+abbrev pub of_two : {A : Type 0} → ℕ → ℕ → Arg → Arg → (Arg → Arg → Result A EvalFault) → Result A EvalFault
+of_two s t a b f = brought s (max s t) a >>= λ x. brought t (max s t) b >>= λ y. f x y
+
+abbrev pub of_both : {A : Type 0} → List ℕ → List Arg → (Arg → Arg → Result A EvalFault) → Result A EvalFault
+of_both (s ∷ t ∷ []) (a ∷ b ∷ []) f = of_two s t a b f
 of_both scales args f = Err NullUsed
 
--- of two numbers, brought to the greater of their scales
-abbrev pub of_numbers : List ℕ → List Arg → (ℤ → ℤ → Result Arg EvalFault) → Result Arg EvalFault
-of_numbers (s ∷ t ∷ []) (Num a ∷ Num b ∷ []) f = bounded (raised s (max s t) a) >>= λ x. bounded (raised t (max s t) b) >>= λ y. f x y
-of_numbers scales args f = Err NullUsed
+-- two numbers, brought to the greater of their scales; null is no number
+abbrev pub numbers : List ℕ → List Arg → Result (ℤ × ℤ) EvalFault
+numbers (s ∷ t ∷ []) (Num a ∷ Num b ∷ []) = bounded (raised s (max s t) a) >>= λ x. bounded (raised t (max s t) b) >>= λ y. Ok (x, y)
+numbers scales args = Err NullUsed
 
--- of two numbers in units of their own scales
-abbrev pub of_units : List Arg → (ℤ → ℤ → Result Arg EvalFault) → Result Arg EvalFault
-of_units (Num a ∷ Num b ∷ []) f = f a b
-of_units args f = Err NullUsed
+-- two numbers in units of their own scales
+abbrev pub units : List Arg → Result (ℤ × ℤ) EvalFault
+units (Num a ∷ Num b ∷ []) = Ok (a, b)
+units args = Err NullUsed
 
-abbrev pub of_number : List Arg → (ℤ → Result Arg EvalFault) → Result Arg EvalFault
-of_number (Num z ∷ []) f = f z
-of_number args f = Err NullUsed
+abbrev pub one_number : List Arg → Result ℤ EvalFault
+one_number (Num z ∷ []) = Ok z
+one_number args = Err NullUsed
 
-abbrev pub of_text : List Arg → (List ℕ → Result Arg EvalFault) → Result Arg EvalFault
-of_text (Text bytes ∷ []) f = f bytes
-of_text args f = Err NullUsed
+abbrev pub one_text : List Arg → Result (List ℕ) EvalFault
+one_text (Text bytes ∷ []) = Ok bytes
+one_text args = Err NullUsed
 
-abbrev pub of_date : List Arg → (ℤ → Result Arg EvalFault) → Result Arg EvalFault
-of_date (Date day ∷ []) f = f day
-of_date args f = Err NullUsed
+abbrev pub one_date : List Arg → Result ℤ EvalFault
+one_date (Date day ∷ []) = Ok day
+one_date args = Err NullUsed
 
-abbrev pub of_truths : List Arg → (Bool → Bool → Bool) → Result Arg EvalFault
-of_truths (Truth a ∷ Truth b ∷ []) f = Ok (Truth (f a b))
-of_truths args f = Err NullUsed
+abbrev pub one_truth : List Arg → Result Bool EvalFault
+one_truth (Truth a ∷ []) = Ok a
+one_truth args = Err NullUsed
 
-abbrev pub of_truth : List Arg → (Bool → Bool) → Result Arg EvalFault
-of_truth (Truth a ∷ []) f = Ok (Truth (f a))
-of_truth args f = Err NullUsed
+abbrev pub two_truths : List Arg → Result (Bool × Bool) EvalFault
+two_truths (Truth a ∷ Truth b ∷ []) = Ok (a, b)
+two_truths args = Err NullUsed
 
 -- an argument as the value of a column, which has an order; a Truth is never compared
 abbrev pub as_value : Arg → Value
@@ -89,9 +92,13 @@ as_value (Text bytes) = value.Text bytes
 as_value (Date day) = value.Date day
 as_value other = value.Null
 
--- whether the order of two arguments is such, null below the rest
+-- the order of two arguments, null below the rest
+abbrev pub order_of : List ℕ → List Arg → Result Ordering EvalFault
+order_of scales args = of_both scales args (λ x y. Ok (value_cmp (as_value x) (as_value y)))
+
+-- whether that order passes
 abbrev pub compared : (Ordering → Bool) → List ℕ → List Arg → Result Arg EvalFault
-compared test scales args = of_both scales args (λ x y. Ok (Truth (test (value_cmp (as_value x) (as_value y)))))
+compared test scales args = order_of scales args >>= λ order. Ok (Truth (test order))
 
 abbrev pub is_equal : Ordering → Bool
 is_equal ordering.Equal = true
@@ -109,11 +116,11 @@ is_greater other = false
 abbrev pub difference : List ℕ → List Arg → Result Arg EvalFault
 difference scales (Date a ∷ Date b ∷ []) = number (a -ℤ b)
 difference scales (Num a ∷ []) = number (neg_ℤ a)
-difference scales args = of_numbers scales args (λ a b. number (a -ℤ b))
+difference scales args = numbers scales args >>= λ p. number (p.0 -ℤ p.1)
 
 -- a quotient or a remainder
-abbrev pub divided : (ℤ → ℤ → ℤ) → List Arg → Result Arg EvalFault
-divided f args = of_units args (λ a b. if int_eq b (pos 0) then Err ZeroDivisor else number (f a b))
+abbrev pub divided : (ℤ → ℤ → ℤ) → ℤ → ℤ → Result Arg EvalFault
+divided f a b = if int_eq b (pos 0) then Err ZeroDivisor else number (f a b)
 
 abbrev pub is_null : Arg → Bool
 is_null Null = true
@@ -152,7 +159,7 @@ joined args = Err NullUsed
 
 -- up to n bytes from the byte `from`, where the first is 1
 abbrev pub part_of : List Arg → Result Arg EvalFault
-part_of (Text bytes ∷ Num from ∷ Num n ∷ []) = Ok (Text (take (unsigned_abs (int_max (pos 0) n)) (drop (unsigned_abs (int_max (pos 1) from) - 1) bytes)))
+part_of (Text bytes ∷ Num from ∷ Num n ∷ []) = Ok (Text (take (unsigned_abs (int_max n (pos 0))) (drop (unsigned_abs (int_max from (pos 1)) - 1) bytes)))
 part_of args = Err NullUsed
 
 abbrev pub without_front_spaces : List ℕ → List ℕ
@@ -179,29 +186,29 @@ value_of fn.Less scales args = compared is_less scales args
 value_of fn.AtMost scales args = compared (λ o. not (is_greater o)) scales args
 value_of fn.Greater scales args = compared is_greater scales args
 value_of fn.AtLeast scales args = compared (λ o. not (is_less o)) scales args
-value_of fn.Plus scales args = of_numbers scales args (λ a b. number (a +ℤ b))
+value_of fn.Plus scales args = numbers scales args >>= λ p. number (p.0 +ℤ p.1)
 value_of fn.Minus scales args = difference scales args
-value_of fn.Times scales args = of_units args (λ a b. number (a *ℤ b))
-value_of fn.Divide scales args = divided int_div args
-value_of fn.Remainder scales args = divided int_rem args
-value_of fn.And scales args = of_truths args (λ a b. a && b)
-value_of fn.Or scales args = of_truths args (λ a b. a || b)
-value_of fn.Not scales args = of_truth args not
+value_of fn.Times scales args = units args >>= λ p. number (p.0 *ℤ p.1)
+value_of fn.Divide scales args = units args >>= λ p. divided int_div p.0 p.1
+value_of fn.Remainder scales args = units args >>= λ p. divided int_rem p.0 p.1
+value_of fn.And scales args = two_truths args >>= λ p. Ok (Truth (p.0 && p.1))
+value_of fn.Or scales args = two_truths args >>= λ p. Ok (Truth (p.0 || p.1))
+value_of fn.Not scales args = one_truth args >>= λ a. Ok (Truth (not a))
 value_of fn.IsNull scales args = null_test args
 value_of fn.IfNull scales args = of_both scales args (λ a b. Ok (first_given a b))
 value_of fn.If scales args = choice scales args
-value_of fn.Abs scales args = of_number args (λ z. number (pos (unsigned_abs z)))
-value_of fn.Sign scales args = of_number args (λ z. number (int_signum z))
+value_of fn.Abs scales args = one_number args >>= λ z. number (pos (unsigned_abs z))
+value_of fn.Sign scales args = one_number args >>= λ z. number (int_signum z)
 value_of fn.Round scales args = rounded scales args
-value_of fn.Least scales args = of_numbers scales args (λ a b. number (int_min a b))
-value_of fn.Greatest scales args = of_numbers scales args (λ a b. number (int_max a b))
-value_of fn.Length scales args = of_text args (λ bytes. number (pos (length bytes)))
+value_of fn.Least scales args = numbers scales args >>= λ p. number (int_min p.0 p.1)
+value_of fn.Greatest scales args = numbers scales args >>= λ p. number (int_max p.0 p.1)
+value_of fn.Length scales args = one_text args >>= λ bytes. number (pos (length bytes))
 value_of fn.Concat scales args = joined args
 value_of fn.Substr scales args = part_of args
-value_of fn.Trim scales args = of_text args (λ bytes. Ok (Text (without_spaces bytes)))
+value_of fn.Trim scales args = one_text args >>= λ bytes. Ok (Text (without_spaces bytes))
 value_of fn.Text scales args = number_text scales args
-value_of fn.Year scales args = of_date args (λ day. number (pos (year_of day)))
-value_of fn.Month scales args = of_date args (λ day. number (pos (month_of day)))
-value_of fn.Day scales args = of_date args (λ day. number (pos (day_of day)))
-value_of fn.DayNumber scales args = of_date args number
+value_of fn.Year scales args = one_date args >>= λ day. number (pos (year_of day))
+value_of fn.Month scales args = one_date args >>= λ day. number (pos (month_of day))
+value_of fn.Day scales args = one_date args >>= λ day. number (pos (day_of day))
+value_of fn.DayNumber scales args = one_date args >>= number
 value_of fn.AddDays scales args = later_date args

@@ -1,6 +1,6 @@
 ghost use Rattle.std.specs.Prelude.{◌≡◌};
 
-use ds_value::{Bytes, NoMemory};
+use ds_value::{Bytes, Copied, NoMemory};
 use thiserror::Error;
 
 /// A value of an expression. `Num` holds units of a scale that stands beside it, `Date` days since 1970-01-01.
@@ -35,5 +35,17 @@ impl From<NoMemory> for EvalFault {
 
     fn from(_: NoMemory) -> Self {
         EvalFault::Memory
+    }
+}
+
+impl Copied for Arg {
+    fn copied(&self) -> Result<Arg, NoMemory> {
+        match self {
+            Arg::Null => Ok(Arg::Null),
+            Arg::Num(n) => Ok(Arg::Num(*n)),
+            Arg::Text(text) => Ok(Arg::Text(text.copied()?)),
+            Arg::Date(day) => Ok(Arg::Date(*day)),
+            Arg::Truth(truth) => Ok(Arg::Truth(*truth)),
+        }
     }
 }

@@ -1,0 +1,7 @@
+//! Laws over the definitions: each function does nothing, and its contract is the law.
+
+ghost use Rattle.expr_table.specs.Calls.{ResultsFit};
+
+pub fn results_fit()
+    ensures { ResultsFit }
+{}
