@@ -2,4 +2,6 @@ pub mod Digits
 pub mod Dates
 pub mod Uses
 pub mod Trees
+pub mod Fits
+pub mod FitsTrees
 pub mod Sound

@@ -1,10 +1,10 @@
 -- What is found for a node holds of it.
-use Rattle.std.proofs.Common.{rules, ◌≡◌, ◌≤◌, ◌<◌, ◌+◌, ◌^◌, ℕ, zero, suc, ℤ, pos, negsuc, List, [], ◌∷◌, ◌++◌, Bool, true, false, Option, Some, None, refl, sym, ap, subst, ◌∙◌, length, get_or, map, arith, slice_get}
+use Rattle.std.proofs.Common.{rules, ◌≡◌, ◌≤◌, ◌<◌, ◌+◌, ◌^◌, ℕ, zero, suc, ℤ, pos, negsuc, List, [], ◌∷◌, ◌++◌, Bool, true, false, Option, Some, None, Result, Ok, drop, drop-cons, refl, sym, ap, subst, ◌∙◌, length, get_or, map, arith, slice_get}
 use Rattle.std.specs.Prelude.{nat_le, nat_lt, max, unsigned_abs, sum, ◌==◌, ◌&&◌, if◌then◌else◌}
 use Rattle.std.specs.List.{AllByRecursion}
 use Rattle.std.specs.Str.{bytes_eq}
 use Rattle.std.specs.Cmp.{first_so, second_so}
-use Rattle.std.proofs.lemmas.Bool.{leb-true, eq-eqb}
+use Rattle.std.proofs.lemmas.Bool.{leb-true, le-leb, eq-eqb}
 use Rattle.std.proofs.lemmas.List.{map-append}
 use Rattle.std.proofs.lemmas.Option.{slice_get_read}
 use Rattle.std.proofs.lemmas.Slice.Eq.{bytes_eq-Decides}
@@ -29,7 +29,8 @@ use Rattle.ds_expr.specs.declared.node.Nodes.{Nodes}
 use Rattle.ds_expr.specs.declared.node.Joined.{Joined}
 use Rattle.ds_expr.specs.declared.node.Use.{Use}
 use Rattle.ds_expr.specs.Literals.{number_literal, units_of, scale_of, date_literal}
-use Rattle.ds_expr.specs.Typing.{use_of, use_at, shapes_of, scales_of, second_literal, result_in, typing_in, typing_of_use, agreed, all_typed, then_some, IsSound, AreSound, number_node, date_node, one_more, typing_of_kind, column_typing, typings_joined, chain_of}
+use Rattle.expr_read.specs.declared.tree.Expr.{Expr}
+use Rattle.ds_expr.specs.Typing.{◌>>=◌, typed_of, typed_args, use_of, use_at, shapes_of, scales_of, second_literal, result_in, typing_in, typing_of_use, agreed, are_small, all_typed, then_some, IsSound, AreSound, number_node, date_node, one_more, typing_of_kind, column_typing, typings_joined, chain_of}
 use Rattle.ds_expr.proofs.Dates.{day_in_range}
 use Rattle.ds_expr.proofs.Trees.{call_typing, chain_typed, column_typed, literal_typed}
 use Rattle.expr_table.specs.declared.arg.Arg.TheVariants.{Num, Date}
@@ -122,10 +123,15 @@ same_bytes a = (bytes_eq-Decides a a).1 refl
 agreed_itself : (u : Use) → agreed u.applied (Some u) ≡ Some u.typing
 agreed_itself u = rw (same_row u.applied.row, same_bytes u.applied.scales) refl
 
-pub use_agrees : (f : FnName) (ts : List Typing) (u : Use) → use_of f ts ≡ Some u → typing_of_use u.applied ts ≡ Some u.typing
-use_agrees f ts u e =
+small_test : (ts : List Typing) → AllByRecursion (λ (t : Typing). t.scale ≤ 38) ts → are_small ts ≡ true
+small_test [] h = refl
+small_test (t ∷ ts) h = rw (le-leb t.scale 38 h.0, small_test ts h.1) refl
+
+pub use_agrees : (f : FnName) (ts : List Typing) (u : Use) → use_of f ts ≡ Some u → AllByRecursion (λ (t : Typing). t.scale ≤ 38) ts → typing_of_use u.applied ts ≡ Some u.typing
+use_agrees f ts u e h =
     let k = use_is f ts u e in
-    ap (λ (g : FnName). agreed u.applied (use_of g ts)) k.name ∙ (ap (agreed u.applied) e ∙ agreed_itself u)
+    ap (λ (b : Bool). if b then agreed u.applied (use_of u.applied.name ts) else None) (small_test ts h)
+    ∙ (ap (λ (g : FnName). agreed u.applied (use_of g ts)) k.name ∙ (ap (agreed u.applied) e ∙ agreed_itself u))
 
 pub use_small : (f : FnName) (ts : List Typing) (u : Use) → use_of f ts ≡ Some u → AllByRecursion (λ (t : Typing). t.scale ≤ 38) ts → u.typing.scale ≤ 38
 use_small f ts u e h = scale_small f (scales_of ts) (second_literal ts) u.typing.scale (use_is f ts u e).scale (small_scales ts h)
@@ -133,7 +139,7 @@ use_small f ts u e h = scale_small f (scales_of ts) (second_literal ts) u.typing
 pub call_sound : (fields : List Field) (f : FnName) (xs : Nodes) (u : Use) → AreSound fields xs → Some u ≡ use_of f xs.typings → IsSound fields (record { node = made.Call u.applied xs.nodes; typing = u.typing })
 call_sound fields f xs u h e =
     record {
-      typing = call_typing fields u.applied xs.nodes ∙ (ap (λ (o : Option (List Typing)). then_some o (typing_of_use u.applied)) h.typings ∙ use_agrees f xs.typings u (sym e));
+      typing = call_typing fields u.applied xs.nodes ∙ (ap (λ (o : Option (List Typing)). then_some o (typing_of_use u.applied)) h.typings ∙ use_agrees f xs.typings u (sym e) h.small);
       small = use_small f xs.typings u (sym e) h.small;
     }
 
@@ -192,7 +198,7 @@ joined_more t [] u o = refl
 joined_more t ((v, None) ∷ xs) u o = refl
 joined_more t ((v, Some right) ∷ xs) u o = joined_further (typing_of_use v (t ∷ right ∷ [])) xs u o (λ s. joined_more s xs u o)
 
-abbrev link_typing : List Field → Applied × Node → Applied × Option Typing
+abbrev pub link_typing : List Field → Applied × Node → Applied × Option Typing
 link_typing fields x = (x.0, typing_in fields x.1)
 
 -- what is known of the first operand gives what is known of all
@@ -207,7 +213,7 @@ joined_by fields (Some a) links right u t r e k g =
 pub join_sound : (fields : List Field) (f : FnName) (left : Joined) (right : TypedNode) (u : Use) (links : List (Applied × Node)) → IsSound fields (chain_of left) → IsSound fields right → use_of f (left.typing ∷ right.typing ∷ []) ≡ Some u
     → links ≡ left.links ++ (u.applied, right.node) ∷ [] → IsSound fields (chain_of (record { first = left.first; links = links; typing = u.typing }))
 join_sound fields f left right u links h k e pushed =
-    let known = joined_by fields (typing_in fields left.first) left.links right.node u left.typing right.typing (sym (chain_typed fields left.first left.links) ∙ h.typing) k.typing (use_agrees f (left.typing ∷ right.typing ∷ []) u e) in
+    let known = joined_by fields (typing_in fields left.first) left.links right.node u left.typing right.typing (sym (chain_typed fields left.first left.links) ∙ h.typing) k.typing (use_agrees f (left.typing ∷ right.typing ∷ []) u e (h.small, (k.small, tt))) in
     record {
       typing = chain_typed fields left.first links ∙ (ap (λ (ls : List (Applied × Node)). then_some (typing_in fields left.first) (λ a. typings_joined a (map (link_typing fields) ls))) pushed ∙ known);
       small = use_small f (left.typing ∷ right.typing ∷ []) u e (h.small, (k.small, tt));
@@ -237,3 +243,11 @@ args_sound fields found more x h k e =
       small = small_more found.typings x.typing h.small k.small;
     } in
     subst (AreSound fields) (sym e) known
+
+pub args_step : (fields : List Field) (exprs : List Expr) (i : ℕ) (e : Expr) (found more : Nodes) (x : TypedNode) → i < length exprs → e ≡ get_or exprs i e → typed_of fields e ≡ Ok x → more ≡ one_more found x
+    → typed_args found (map (typed_of fields) (drop i exprs)) ≡ typed_args more (map (typed_of fields) (drop (i + 1) exprs))
+args_step fields exprs i e found more x within at typed made =
+    let split : drop i exprs ≡ e ∷ drop (i + 1) exprs = drop-cons exprs i e within ∙ (ap (λ (f : Expr). f ∷ drop (suc i) exprs) (sym at) ∙ ap (λ (n : ℕ). e ∷ drop n exprs) (let one : suc i ≡ i + 1 = omega arith in one)) in
+    ap (λ (es : List Expr). typed_args found (map (typed_of fields) es)) split
+    ∙ (ap (λ (r : Result TypedNode ℕ). r >>= λ y. typed_args (one_more found y) (map (typed_of fields) (drop (i + 1) exprs))) typed
+    ∙ ap (λ (xs : Nodes). typed_args xs (map (typed_of fields) (drop (i + 1) exprs))) (sym made))

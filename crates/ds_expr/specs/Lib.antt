@@ -1,3 +1,5 @@
 pub mod Names
 pub mod Literals
 pub mod Typing
+pub mod Typed
+pub mod Values

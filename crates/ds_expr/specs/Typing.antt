@@ -2,7 +2,7 @@
 -- an expression that isn't typed is refused at the place of the first node that no row of the table, no column and no
 -- literal types.
 use Rattle.std.specs.Prelude.{◌≡◌, ◌≤◌, ℕ, ◌+◌, ◌^◌, ℤ, pos, negsuc, unsigned_abs, List, [], ◌∷◌, ◌++◌, map, slice_get, Option, Some, None, Result, Ok, Err, Bool, true, false, ◌&&◌, ◌==◌, nat_lt, nat_le, if◌then◌else◌, codes}
-use Rattle.std.specs.List.{AllByRecursion}
+use Rattle.std.specs.List.{AllByRecursion, list_all}
 use Rattle.std.specs.Str.{bytes_eq}
 use Rattle.ds_value.specs.declared.kind.Kind.{Kind}
 use Rattle.ds_value.specs.declared.kind.Kind.TheVariants as kind
@@ -205,8 +205,12 @@ abbrev pub agreed : Applied → Option Use → Option Typing
 agreed u (Some v) = if (u.row == v.applied.row) && bytes_eq u.scales v.applied.scales then Some v.typing else None
 agreed u None = None
 
+-- no scale is above 38
+abbrev pub are_small : List Typing → Bool
+are_small ts = list_all (λ (t : Typing). nat_le t.scale 38) ts
+
 abbrev pub typing_of_use : Applied → List Typing → Option Typing
-typing_of_use u ts = agreed u (use_of u.name ts)
+typing_of_use u ts = if are_small ts then agreed u (use_of u.name ts) else None
 
 abbrev pub all_typed : List (Option Typing) → Option (List Typing)
 all_typed [] = Some []

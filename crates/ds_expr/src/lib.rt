@@ -1,14 +1,15 @@
 //! Expressions over a schema: typed, evaluated on rows, assigned to fields.
 #![tactic(auto)]
 
-mod check;
+mod checking;
 mod fault;
 mod literal;
 mod names;
 mod node;
 mod typing;
 
+pub use checking::{Typed, check};
 pub use expr_read::{Expr, ExprFault, Infix, Link, Prefix, parse};
 pub use expr_table::{Arg, EvalFault, Shape};
 pub use fault::TypeFault;
-pub use node::{Applied, Node};
+pub use node::{Applied, Node, Typing};

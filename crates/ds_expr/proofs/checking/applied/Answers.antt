@@ -1,7 +1,7 @@
 use Rattle.std.proofs.Common.{◌≡◌, sym, ◌∙◌, ap}
 use Rattle.ds_expr.specs.Typing.{use_of}
 use Rattle.ds_expr.proofs.Sound.{call_sound}
-use Rattle.ds_expr.proofs.check.applied.Goals as goal
+use Rattle.ds_expr.proofs.checking.applied.Goals as goal
 
 pub returns-in-Some-clause-sound : goal.returns-in-Some-clause-sound
 returns-in-Some-clause-sound c =

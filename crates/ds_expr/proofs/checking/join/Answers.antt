@@ -1,6 +1,6 @@
 use Rattle.std.proofs.Common.{◌≡◌, sym, ◌∙◌, ap}
 use Rattle.ds_expr.proofs.Sound.{join_sound}
-use Rattle.ds_expr.proofs.check.join.Goals as goal
+use Rattle.ds_expr.proofs.checking.join.Goals as goal
 
 pub returns-clause-sound : goal.returns-clause-sound
 returns-clause-sound c =

@@ -1,6 +1,6 @@
 use Rattle.std.proofs.Common.{◌≡◌, map, drop}
 use Rattle.ds_expr.specs.Typing.{typed_args, typed_of, typed_link, typed_links, begin, chain_of, no_nodes, AreSound, IsSound}
-use Rattle.ds_expr.proofs.check.+typing.Given as goal
+use Rattle.ds_expr.proofs.checking.+typing.Given as goal
 
 abbrev pub invariant-args-loop-expr : goal.invariant-args-loop-expr
 invariant-args-loop-expr l = record {

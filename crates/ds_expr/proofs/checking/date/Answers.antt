@@ -1,7 +1,7 @@
 use Rattle.std.proofs.Common.{rules, ◌≡◌, sym, ◌∙◌, FitsSigned, w32}
 use Rattle.std.proofs.lemmas.Int.{to_z-of_z}
 use Rattle.ds_expr.proofs.Sound.{date_sound}
-use Rattle.ds_expr.proofs.check.date.Goals as goal
+use Rattle.ds_expr.proofs.checking.date.Goals as goal
 
 pub returns-in-Some-2-clause-sound : goal.returns-in-Some-2-clause-sound
 returns-in-Some-2-clause-sound c =
