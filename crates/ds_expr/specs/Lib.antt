@@ -3,3 +3,4 @@ pub mod Literals
 pub mod Typing
 pub mod Typed
 pub mod Values
+pub mod Assigning

@@ -1,13 +1,16 @@
 //! Expressions over a schema: typed, evaluated on rows, assigned to fields.
 #![tactic(auto)]
 
+mod assigning;
 mod checking;
+mod evaluating;
 mod fault;
 mod literal;
 mod names;
 mod node;
 mod typing;
 
+pub use assigning::can_assign;
 pub use checking::{Typed, check};
 pub use expr_read::{Expr, ExprFault, Infix, Link, Prefix, parse};
 pub use expr_table::{Arg, EvalFault, Shape};
