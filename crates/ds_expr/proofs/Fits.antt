@@ -36,11 +36,8 @@ use Rattle.ds_expr.specs.declared.node.Node.{Node}
 use Rattle.ds_expr.specs.declared.node.Use.{Use}
 use Rattle.ds_expr.specs.Typing.{typing_in, typing_of_use, typing_of_kind, typing_of_number, literal_typing, column_typing, agreed, are_small, use_of, shapes_of, scales_of, result_in, all_typed, then_some, typings_joined}
 use Rattle.ds_expr.specs.Values.{value_in, values, arg_of, applied, branch, chosen, called, is_if, decides, joined, all_joined, then_joined, valued_link, Valued}
-use Rattle.ds_expr.proofs.Sound.{UseIs, use_is, link_typing}
-
--- what is known of a value
-abbrev pub Fits : Typing → Arg → Type 0
-Fits t v = HasShape t.shape v × IsInRange v
+use Rattle.ds_expr.specs.Typed.{Fits}
+use Rattle.ds_expr.proofs.Sound.{UseIs, use_is}
 
 abbrev pub NodeFits : List Field → List Value → Node → Type 0
 NodeFits fields row node = (t : Typing) (v : Arg) → typing_in fields node ≡ Some t → value_in row node ≡ Ok v → Fits t v

@@ -35,8 +35,8 @@ use Rattle.ds_expr.specs.declared.node.Node.TheViews.{roll-Node}
 use Rattle.ds_expr.specs.declared.node.Node.TheFolds.{ind-Node, fold-roll-Node, map-Node}
 use Rattle.ds_expr.specs.Typing.{typing_step, typing_in, typing_of_use, typing_of_kind, typing_of_number, literal_typing, column_typing, shapes_of, all_typed, then_some, typings_joined}
 use Rattle.ds_expr.specs.Values.{value_step, value_in, values, arg_of, applied, branch, chosen, called, is_if, decides, joined, all_joined, then_joined, valued_link, Valued}
-use Rattle.ds_expr.proofs.Sound.{link_typing}
-use Rattle.ds_expr.proofs.Fits.{Fits, NodeFits, RowIs, row_is, applied_fits, some_is, ok_is}
+use Rattle.ds_expr.specs.Typed.{Fits, link_typing}
+use Rattle.ds_expr.proofs.Fits.{NodeFits, RowIs, row_is, applied_fits, some_is, ok_is}
 
 -- ---- literals
 

@@ -4,4 +4,5 @@ pub mod Uses
 pub mod Trees
 pub mod Fits
 pub mod FitsTrees
+pub mod Evals
 pub mod Sound

@@ -31,6 +31,7 @@ use Rattle.ds_expr.specs.declared.node.Use.{Use}
 use Rattle.ds_expr.specs.Literals.{number_literal, units_of, scale_of, date_literal}
 use Rattle.expr_read.specs.declared.tree.Expr.{Expr}
 use Rattle.ds_expr.specs.Typing.{◌>>=◌, typed_of, typed_args, use_of, use_at, shapes_of, scales_of, second_literal, result_in, typing_in, typing_of_use, agreed, are_small, all_typed, then_some, IsSound, AreSound, number_node, date_node, one_more, typing_of_kind, column_typing, typings_joined, chain_of}
+use Rattle.ds_expr.specs.Typed.{link_typing}
 use Rattle.ds_expr.proofs.Dates.{day_in_range}
 use Rattle.ds_expr.proofs.Trees.{call_typing, chain_typed, column_typed, literal_typed}
 use Rattle.expr_table.specs.declared.arg.Arg.TheVariants.{Num, Date}
@@ -197,9 +198,6 @@ joined_more : (t : Typing) (xs : List (Applied × Option Typing)) (u : Applied) 
 joined_more t [] u o = refl
 joined_more t ((v, None) ∷ xs) u o = refl
 joined_more t ((v, Some right) ∷ xs) u o = joined_further (typing_of_use v (t ∷ right ∷ [])) xs u o (λ s. joined_more s xs u o)
-
-abbrev pub link_typing : List Field → Applied × Node → Applied × Option Typing
-link_typing fields x = (x.0, typing_in fields x.1)
 
 -- what is known of the first operand gives what is known of all
 joined_by : (fields : List Field) (o : Option Typing) (links : List (Applied × Node)) (right : Node) (u : Use) (t r : Typing) → then_some o (λ a. typings_joined a (map (link_typing fields) links)) ≡ Some t → typing_in fields right ≡ Some r

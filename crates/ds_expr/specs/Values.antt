@@ -35,10 +35,14 @@ values found (v ∷ vs) = v >>= λ x. values (found ++ x ∷ []) vs
 abbrev pub applied : Applied → List Arg → Valued
 applied u args = value_of u.name u.scales args
 
--- the chosen branch alone is evaluated; null stands for the other
+-- with the chosen branch alone; null stands for the other
+abbrev pub branched : Applied → Bool → Valued → Valued
+branched u true v = v >>= λ x. applied u (Truth true ∷ x ∷ Null ∷ [])
+branched u false v = v >>= λ x. applied u (Truth false ∷ Null ∷ x ∷ [])
+
 abbrev pub branch : Applied → Arg → Valued → Valued → Valued
-branch u (Truth true) a b = a >>= λ x. applied u (Truth true ∷ x ∷ Null ∷ [])
-branch u (Truth false) a b = b >>= λ x. applied u (Truth false ∷ Null ∷ x ∷ [])
+branch u (Truth true) a b = branched u true a
+branch u (Truth false) a b = branched u false b
 branch u test a b = Err NullUsed
 
 abbrev pub chosen : Applied → List Valued → Valued

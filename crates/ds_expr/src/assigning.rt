@@ -20,3 +20,24 @@ pub fn can_assign(shape: Shape, scale: u8, kind: &Kind) -> bool
         _ => false,
     }
 }
+
+fn fitting(kind: &Kind, value: Value, fault: EvalFault) -> Result<Value, EvalFault>
+    requires { IsKind kind.now }
+    ensures { result ≡ fitting kind.now value fault }
+{
+    if fits(kind, &value) {
+        Ok(value)
+    } else {
+        Err(fault)
+    }
+}
+
+fn whole(kind: &Kind, bits: u8, n: i128) -> Result<Value, EvalFault>
+    requires { IsKind (kind.Int bits) }
+    ensures { result ≡ assigned_number (kind.Int bits) 0 n }
+{
+    match i64::try_from(n) {
+        Ok(n) => fitting(&Kind::Int(bits), Value::Int(n), EvalFault::Overflow),
+        Err(_) => Err(EvalFault::Overflow),
+    }
+}

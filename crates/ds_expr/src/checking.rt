@@ -4,7 +4,7 @@ ghost use Rattle.std.specs.Prelude.{◌≡◌, [], ◌∷◌, map, IfOk};
 ghost use Rattle.std.specs.Option.{option_map};
 ghost use Rattle.ds_expr.specs.Literals.{number_literal};
 ghost use Rattle.ds_expr.specs.Names.{fn_named, prefix_name};
-ghost use Rattle.ds_expr.specs.Typed.{root};
+ghost use Rattle.ds_expr.specs.Typed.{IsTyped, root};
 ghost use Rattle.ds_expr.specs.Typing.{Answers, AreSound, IsSound, begin, chain_of, date_in, join, date_node, no_nodes, number_node, one_more, text_literal, typed_args, typed_call, typed_chain, typed_column, typed_date, typed_link, typed_links, typed_number, typed_of, typed_text, typed_use, use_of, whole};
 
 use crate::fault::TypeFault;
@@ -345,6 +345,21 @@ impl Model for Typed {
     ghost view = { λ t. record { fields = t.schema; node = t.node; typing = t.typing } };
 
     ghost invariant = { λ t. IsTyped t.schema t.node t.typing };
+}
+
+impl Typed {
+    pub fn schema(&self) -> &Schema
+        ensures { result.now ≡ self.now.fields }
+    {
+        &self.schema
+    }
+
+    pub fn node(&self) -> &Node
+        ensures node { result.now ≡ self.now.node }
+        ensures typed { IsTyped self.now.fields self.now.node self.now.typing }
+    {
+        &self.node
+    }
 }
 
 /// The expression with its rows, or the place of its first node, operands first, that isn't typed.
