@@ -5,4 +5,5 @@ pub mod Trees
 pub mod Fits
 pub mod FitsTrees
 pub mod Evals
+pub mod Assigns
 pub mod Sound

@@ -32,19 +32,25 @@ Assignable k s (Date day) = (can_assign shape.Date s k ≡ true) × (fits_kind k
 Assignable k s (Truth b) = ⊥
 
 -- a value where it lies in the kind's range
-abbrev pub fitting : Kind → Value → EvalFault → Result Value EvalFault
-fitting k v fault = if fits_kind k v then Ok v else Err fault
+abbrev pub fitting : Kind → Value → Result Value EvalFault
+fitting k v = if fits_kind k v then Ok v else Err Overflow
 
--- a whole number as a value of an unsigned kind
-abbrev pub unsigned : ℕ → ℤ → Result Value EvalFault
-unsigned bits (pos n) = fitting (kind.UInt bits) (value.UInt n) Overflow
-unsigned bits (negsuc n) = Err Overflow
+abbrev pub assigned_whole : ℕ → ℤ → Result Value EvalFault
+assigned_whole bits z = fitting (kind.Int bits) (value.Int z)
+
+abbrev pub assigned_unsigned : ℕ → ℤ → Result Value EvalFault
+assigned_unsigned bits (pos n) = fitting (kind.UInt bits) (value.UInt n)
+assigned_unsigned bits (negsuc n) = Err Overflow
+
+-- units of the argument's scale as units of the kind's
+abbrev pub assigned_decimal : ℕ → ℕ → ℕ → ℤ → Result Value EvalFault
+assigned_decimal p s scale z = fitting (kind.Dec p s) (value.Dec (z *ℤ pos (10 ^ (s - scale))))
 
 abbrev pub assigned_number : Kind → ℕ → ℤ → Result Value EvalFault
-assigned_number (kind.Int bits) s z = fitting (kind.Int bits) (value.Int z) Overflow
-assigned_number (kind.UInt bits) s z = unsigned bits z
-assigned_number (kind.Dec p scale) s z = fitting (kind.Dec p scale) (value.Dec (z *ℤ pos (10 ^ (scale - s)))) Overflow
-assigned_number k s z = Err NullUsed
+assigned_number (kind.Int bits) scale z = assigned_whole bits z
+assigned_number (kind.UInt bits) scale z = assigned_unsigned bits z
+assigned_number (kind.Dec p s) scale z = assigned_decimal p s scale z
+assigned_number k scale z = Err NullUsed
 
 abbrev pub text_of_kind : Bool → ℕ → List ℕ → List ℕ
 text_of_kind true max bytes = filled max bytes

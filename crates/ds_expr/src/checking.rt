@@ -4,13 +4,14 @@ ghost use Rattle.std.specs.Prelude.{◌≡◌, [], ◌∷◌, map, IfOk};
 ghost use Rattle.std.specs.Option.{option_map};
 ghost use Rattle.ds_expr.specs.Literals.{number_literal};
 ghost use Rattle.ds_expr.specs.Names.{fn_named, prefix_name};
-ghost use Rattle.ds_expr.specs.Typed.{IsTyped, root};
+ghost use Rattle.ds_expr.specs.Typed.{root};
 ghost use Rattle.ds_expr.specs.Typing.{Answers, AreSound, IsSound, begin, chain_of, date_in, join, date_node, no_nodes, number_node, one_more, text_literal, typed_args, typed_call, typed_chain, typed_column, typed_date, typed_link, typed_links, typed_number, typed_of, typed_text, typed_use, use_of, whole};
 
 use crate::fault::TypeFault;
 use crate::literal::{Number, date_literal, number_literal};
 use crate::names::{fn_named, infix_name, is, prefix_name};
 use crate::node::{Joined, Node, Nodes, TypedNode, Typing};
+use crate::typed::Typed;
 use crate::typing::{plain, typing_of_kind, use_of};
 use ds_schema::Schema;
 use ds_value::{Bytes, NoMemory};
@@ -18,7 +19,6 @@ use expr_read::{Expr, Link, Prefix};
 use expr_table::{Arg, FnName, Shape};
 use sqlite_items::{Boxed, Items};
 use std::alloc::Global;
-use std::marker::Model;
 
 /// The number that a literal without a point is.
 fn whole(scale: u8, units: i128) -> Option<u128>
@@ -325,52 +325,11 @@ fn links(
     Ok(joined)
 }
 
-/// An expression over a schema, each of whose nodes has its one row, column or literal.
-#[derive(Debug, Drop)]
-pub struct Typed {
-    schema: Schema,
-    node: Node,
-    typing: Typing,
-}
-
-impl Model for Typed {
-    ghost use Rattle.std.specs.Coded.{codes};
-    ghost use Rattle.ds_expr.specs.contracts.node.Node as tree;
-    ghost use Rattle.ds_expr.specs.Typed.{IsTyped, TypedTree};
-
-    ghost Value = { TypedTree };
-
-    ghost coded = { Prim.hlevel (codes, tree.the_row.coded) };
-
-    ghost view = { λ t. record { fields = t.schema; node = t.node; typing = t.typing } };
-
-    ghost invariant = { λ t. IsTyped t.schema t.node t.typing };
-}
-
-impl Typed {
-    pub fn schema(&self) -> &Schema
-        ensures { result.now ≡ self.now.fields }
-    {
-        &self.schema
-    }
-
-    pub fn node(&self) -> &Node
-        ensures node { result.now ≡ self.now.node }
-        ensures typed { IsTyped self.now.fields self.now.node self.now.typing }
-    {
-        &self.node
-    }
-}
-
 /// The expression with its rows, or the place of its first node, operands first, that isn't typed.
 pub fn check(alloc: Global, expr: Expr, schema: &Schema) -> Result<Typed, TypeFault>
     ensures answers { Answers root result (typed_of schema.now expr) }
     ensures fields { IfOk result (λ typed. typed.fields ≡ schema.now) }
 {
     let TypedNode { node, typing } = node(alloc, schema, &expr)?;
-    Ok(Typed {
-        schema: schema.copied()?,
-        node,
-        typing,
-    })
+    Ok(Typed::new(schema.copied()?, node, typing))
 }

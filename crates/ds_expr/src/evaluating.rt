@@ -9,25 +9,13 @@ ghost use Rattle.ds_expr.specs.Typed.{AreArgs, Fits, HasTyping, IsRow, JoinsFrom
 ghost use Rattle.ds_expr.specs.Typing.{typing_in};
 ghost use Rattle.ds_expr.specs.Values.{all_joined, applied, arg_of, branched, called, chosen, decides, is_if, joined, value_in, valued_link, values};
 
-use crate::checking::Typed;
 use crate::node::{Applied, Node};
+use crate::typed::{Typed, copied_arg};
 use ds_schema::{Field, Row};
 use ds_value::{NoMemory, Value};
 use expr_table::{Arg, EvalFault, FnName, apply};
 use sqlite_items::Items;
 use std::alloc::Global;
-
-fn copied(arg: &Arg) -> Result<Arg, NoMemory>
-    ensures { IfOk result (λ copy. copy ≡ arg.now) }
-{
-    match arg {
-        Arg::Null => Ok(Arg::Null),
-        Arg::Num(n) => Ok(Arg::Num(*n)),
-        Arg::Text(text) => Ok(Arg::Text(text.copied()?)),
-        Arg::Date(day) => Ok(Arg::Date(*day)),
-        Arg::Truth(truth) => Ok(Arg::Truth(*truth)),
-    }
-}
 
 fn arg_of(value: &Value) -> Result<Arg, NoMemory>
     ensures { IfOk result (λ arg. arg ≡ arg_of value.now) }
@@ -93,7 +81,7 @@ fn node(alloc: Global, fields: &[Field], tree: &Node, row: &Row) -> Result<Arg, 
     ensures { Answers result (value_in row.now tree.now) }
 {
     match tree {
-        Node::Literal(arg, _) => Ok(copied(arg)?),
+        Node::Literal(arg, _) => Ok(copied_arg(arg)?),
         Node::Column(col) => Ok(column(row, *col)?),
         Node::Call(used, args) => call(alloc, fields, used, args.as_slice(), row),
         Node::Chain(first, links) => {
