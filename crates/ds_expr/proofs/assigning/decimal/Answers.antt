@@ -16,4 +16,4 @@ returns-in-None c =
     let number : FitsSigned w128 c.args.n = search rules in
     let factor : FitsSigned w128 c.pow-factor.result = search rules in
     let out = rw (to_z-of_z w128 c.args.n number, to_z-of_z w128 c.pow-factor.result factor, c.pow-factor.ensures, c.from.ensures) at c.in-None.ensures in
-    too_wide _ _ _ c.requires.digits out
+    too_wide c.args.p c.args.s _ c.requires.digits out
