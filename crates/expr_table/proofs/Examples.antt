@@ -1,10 +1,10 @@
 -- Values of rows, computed.
-use Rattle.std.proofs.Common.{◌≡◌, ◌-◌, ◌^◌, true, false, List, [], ◌∷◌, pos, refl, codes, Ok, Err, Some, None}
+use Rattle.std.proofs.Common.{◌≡◌, ◌-◌, ◌^◌, true, false, [], ◌∷◌, pos, refl, codes, Ok, Err, Some, None}
 use Rattle.std.specs.Prelude.{neg_ℤ}
 use Rattle.std.specs.Fmt.{digits}
 use Rattle.expr_table.specs.declared.entry.FnName.TheVariants as fn
 use Rattle.expr_table.specs.declared.arg.Arg.TheVariants.{Null, Num, Text, Date, Truth}
-use Rattle.expr_table.specs.declared.arg.EvalFault.TheVariants.{Overflow, ZeroDivisor, NullUsed, TooLong}
+use Rattle.expr_table.specs.declared.arg.EvalFault.TheVariants.{Overflow, ZeroDivisor, NullUsed}
 use Rattle.expr_table.specs.Meaning.{value_of}
 use Rattle.expr_table.specs.Scales.{result_scale}
 

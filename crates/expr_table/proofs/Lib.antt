@@ -3,3 +3,5 @@ pub mod Names
 pub mod Found
 pub mod Results
 pub mod RowResults
+pub mod Nulls
+pub mod RowNulls

@@ -1,7 +1,7 @@
 -- Names and shapes that pass a test are equal.
-use Rattle.std.proofs.Common.{◌≡◌, ◌∙◌, sym, ap, Bool, true, false, List, [], ◌∷◌, ℕ, Option, Some, None, ◌&&◌, refl, find, bytes_eq}
+use Rattle.std.proofs.Common.{◌≡◌, sym, ap, Bool, true, false, List, [], ◌∷◌, ℕ, Option, Some, ◌&&◌, refl, find, bytes_eq}
 use Rattle.std.specs.Bool.{Decides}
-use Rattle.std.proofs.lemmas.Slice.Eq.{slice_eq-Decides, bytes_eq-Decides}
+use Rattle.std.proofs.lemmas.Slice.Eq.{bytes_eq-Decides}
 use denote.Enum.Bare.{sameb, same_true, true_same}
 use Rattle.expr_table.specs.declared.entry.Shape.{Shape}
 use Rattle.expr_table.specs.declared.entry.Shape.TheVariants.{Num, Text, Date, Truth, Unused}

@@ -1,22 +1,16 @@
 -- What a row gives has the shape of its result, and lies in its range.
-use Rattle.std.proofs.Common.{◌≡◌, ◌<◌, ◌^◌, sym, ap, subst, Bool, true, false, List, [], ◌∷◌, ℕ, zero, suc, ◌+◌, ℤ, unsigned_abs, Option, Some, None, Result, Ok, Err, refl, slice_get, arith, nat_lt, nat_le, max, length, ◌++◌}
-use Rattle.std.specs.Prelude.{if◌then◌else◌, ◌-ℤ◌, ◌+ℤ◌, ◌-◌, pos, neg_ℤ, ◌&&◌, ◌||◌, not}
-use Rattle.std.specs.declared.cmp.Ordering.{Ordering}
+use Rattle.std.proofs.Common.{◌≡◌, ◌<◌, ◌^◌, Bool, true, false, List, [], ◌∷◌, ℕ, ℤ, unsigned_abs, Result, Ok, Err, refl, arith, nat_le, max, length, ◌++◌}
+use Rattle.std.specs.Prelude.{if◌then◌else◌, ◌-ℤ◌, ◌+ℤ◌, ◌-◌, pos, neg_ℤ}
 use Rattle.std.proofs.lemmas.Bool.Decides.{nat_tests}
-use Rattle.ds_value.specs.declared.kind.Kind.TheVariants as kind
-use Rattle.ds_value.specs.declared.value.Value.TheVariants as value
-use Rattle.ds_value.specs.Kinds.{fits_kind}
 use Rattle.expr_table.specs.declared.entry.Shape.{Shape}
 use Rattle.expr_table.specs.declared.entry.Shape.TheVariants as shape
-use Rattle.expr_table.specs.declared.entry.Entry.{Entry}
 use Rattle.expr_table.specs.declared.arg.Arg.{Arg}
 use Rattle.expr_table.specs.declared.arg.Arg.TheVariants.{Null, Num, Text, Date, Truth}
 use Rattle.expr_table.specs.declared.arg.EvalFault.{EvalFault}
 use Rattle.expr_table.specs.declared.arg.EvalFault.TheVariants.{ZeroDivisor, TooLong}
 use Rattle.std.specs.Ordering.{int_eq}
-use Rattle.expr_table.specs.Meaning.{◌>>=◌, bounded, number, date, raised, brought, value_of, order_of, compared, numbers, units, one_number, one_text, one_date, one_truth, two_truths, difference, divided, null_test, first_given, of_both, of_two, choice, nearest_ℤ, rounded, joined, text_up_to_limit, part_of, number_text, later_date}
+use Rattle.expr_table.specs.Meaning.{◌>>=◌, bounded, number, date, raised, brought, numbers, difference, divided, null_test, first_given, of_both, choice, nearest_ℤ, rounded, joined, part_of, number_text, later_date}
 use Rattle.expr_table.specs.Calls.{HasShape, HaveShapes, IsInRange, AreInRange}
-use Rattle.expr_table.specs.TableRows.{rows, shapes}
 
 -- of this shape, and in its range
 abbrev pub Is : Shape → Arg → Type 0

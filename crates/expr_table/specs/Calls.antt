@@ -1,17 +1,19 @@
 -- What a row may be applied to, and what it then answers.
-use Rattle.std.specs.Prelude.{◌≡◌, ◌≢◌, ◌<◌, ◌≤◌, ℕ, ◌^◌, unsigned_abs, true, List, [], ◌∷◌, Some, Result, Ok, Err, slice_get}
+use Rattle.std.specs.Prelude.{◌≡◌, ◌≢◌, ◌↔◌, ◌<◌, ◌≤◌, ℕ, ◌+◌, ◌^◌, unsigned_abs, Bool, true, false, not, ◌&&◌, ◌||◌, nat_le, List, [], ◌∷◌, length, Some, Result, Ok, Err, slice_get}
 use Rattle.ds_value.specs.declared.kind.Kind.TheVariants as kind
 use Rattle.ds_value.specs.declared.value.Value.TheVariants as value
 use Rattle.ds_value.specs.Kinds.{fits_kind}
 use Rattle.expr_table.specs.declared.entry.Shape.{Shape}
 use Rattle.expr_table.specs.declared.entry.Shape.TheVariants as shape
+use Rattle.expr_table.specs.declared.entry.FnName.{FnName}
+use Rattle.expr_table.specs.declared.entry.FnName.TheVariants as fn
 use Rattle.expr_table.specs.declared.entry.Entry.{Entry}
 use Rattle.expr_table.specs.declared.arg.Arg.{Arg}
 use Rattle.expr_table.specs.declared.arg.Arg.TheVariants.{Null, Num, Text, Date, Truth}
 use Rattle.expr_table.specs.declared.arg.EvalFault.{EvalFault}
 use Rattle.expr_table.specs.declared.arg.EvalFault.TheVariants as fault
 use Rattle.expr_table.specs.TableRows.{rows, shapes}
-use Rattle.expr_table.specs.Meaning.{value_of}
+use Rattle.expr_table.specs.Meaning.{value_of, is_null}
 
 -- null has each shape
 abbrev pub HasShape : Shape → Arg → Type 0
@@ -52,3 +54,25 @@ Answers answer value = answer ≢ Err fault.Memory → answer ≡ value
 -- what a row gives for arguments of its shapes has the shape of its result, and lies in its range
 abbrev pub ResultsFit : Type 0
 ResultsFit = (row : ℕ) (e : Entry) (scales : List ℕ) (args : List Arg) (v : Arg) → slice_get rows row ≡ Some e → HaveShapes (shapes e) args → AreInRange args → value_of e.name scales args ≡ Ok v → HasShape e.result v × IsInRange v
+
+-- the places, counted from 0, in which null is an argument like others
+abbrev pub takes_null : FnName → ℕ → Bool
+takes_null fn.Equal place = true
+takes_null fn.NotEqual place = true
+takes_null fn.Less place = true
+takes_null fn.AtMost place = true
+takes_null fn.Greater place = true
+takes_null fn.AtLeast place = true
+takes_null fn.IsNull place = true
+takes_null fn.IfNull place = true
+takes_null fn.If place = nat_le 1 place
+takes_null name place = false
+
+-- null stands in another place, where the first argument has this one
+abbrev pub misuses_null : FnName → ℕ → List Arg → Bool
+misuses_null name place [] = false
+misuses_null name place (a ∷ args) = (not (takes_null name place) && is_null a) || misuses_null name (place + 1) args
+
+-- a row's fault is NullUsed exactly where null stands in such a place
+abbrev pub NullsAreExact : Type 0
+NullsAreExact = (row : ℕ) (e : Entry) (scales : List ℕ) (args : List Arg) → slice_get rows row ≡ Some e → HaveShapes (shapes e) args → length scales ≡ length args → (value_of e.name scales args ≡ Err fault.NullUsed) ↔ (misuses_null e.name 0 args ≡ true)

@@ -1,5 +1,5 @@
 -- The scale of a row's result, by the scales of its arguments; what is no Num has scale 0.
-use Rattle.std.specs.Prelude.{ℕ, zero, suc, ◌+◌, max, List, [], ◌∷◌, Option, Some, None, ◌==◌, nat_le, if◌then◌else◌, sum}
+use Rattle.std.specs.Prelude.{ℕ, zero, max, List, [], ◌∷◌, Option, Some, None, ◌==◌, nat_le, if◌then◌else◌, sum}
 use Rattle.std.specs.List.{list_all}
 use Rattle.expr_table.specs.declared.entry.FnName.{FnName}
 use Rattle.expr_table.specs.declared.entry.FnName.TheVariants as fn

@@ -23,9 +23,11 @@ pub use arg::{Arg, EvalFault};
 pub use entry::{Entry, FnName, Shape};
 pub use find::find_row;
 pub use holder::Table;
-pub use laws::results_fit;
+pub use laws::{nulls_are_exact, results_fit};
 pub use rows::table;
 pub use scale::result_scale;
 
+#[cfg(test)]
+mod edges;
 #[cfg(test)]
 mod tests;

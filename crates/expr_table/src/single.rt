@@ -1,4 +1,4 @@
-ghost use Rattle.std.specs.Prelude.{◌≡◌, ◌<◌, ◌^◌, pos, unsigned_abs, IfOk};
+ghost use Rattle.std.specs.Prelude.{◌≡◌, pos, unsigned_abs};
 ghost use Rattle.expr_table.specs.Calls.{AreSmall, AreInRange, Answers};
 ghost use Rattle.expr_table.specs.Groups.{IsOfNumber};
 ghost use Rattle.expr_table.specs.Meaning.{number, number_text, one_number, rounded, value_of};

@@ -1,9 +1,9 @@
-ghost use Rattle.std.specs.Prelude.{◌≡◌, ◌-◌, ℕ, List, pos, unsigned_abs, take, drop, Ok};
+ghost use Rattle.std.specs.Prelude.{◌≡◌, ◌-◌, ◌++◌, ℕ, List, pos, unsigned_abs, take, drop, Ok};
 ghost use Rattle.expr_table.specs.declared.arg.Arg.TheVariants as arg;
 ghost use Rattle.std.specs.Int.{int_max};
 ghost use Rattle.expr_table.specs.Calls.{Answers};
 ghost use Rattle.expr_table.specs.Groups.{IsOfText};
-ghost use Rattle.expr_table.specs.Meaning.{joined, value_of, without_front_spaces, without_spaces};
+ghost use Rattle.expr_table.specs.Meaning.{text_up_to_limit, value_of, without_front_spaces, without_spaces};
 
 use crate::number::number;
 use crate::{Arg, EvalFault, FnName};
@@ -18,20 +18,15 @@ fn text_of(alloc: Global, bytes: &[u8]) -> Result<Arg, EvalFault>
     Ok(Arg::Text(text))
 }
 
-fn joined(args: &[Arg]) -> Result<Arg, EvalFault>
-    ensures { Answers result (joined args.now) }
+fn joined(first: &Bytes, second: &Bytes) -> Result<Arg, EvalFault>
+    ensures { Answers result (text_up_to_limit (first.now ++ second.now)) }
 {
-    match args {
-        [Arg::Text(a), Arg::Text(b)] => {
-            if a.as_slice().len() + b.as_slice().len() > 65536 {
-                return Err(EvalFault::TooLong);
-            }
-            let mut text = a.copied()?;
-            text.append(b.as_slice())?;
-            Ok(Arg::Text(text))
-        }
-        _ => Err(EvalFault::NullUsed),
+    if first.as_slice().len() + second.as_slice().len() > 65536 {
+        return Err(EvalFault::TooLong);
     }
+    let mut text = first.copied()?;
+    text.append(second.as_slice())?;
+    Ok(Arg::Text(text))
 }
 
 /// Up to n bytes from the byte `from`, where the first is 1.
@@ -69,13 +64,21 @@ pub fn of_text(alloc: Global, name: FnName, args: &[Arg]) -> Result<Arg, EvalFau
     requires { IsOfText name }
     ensures { (scales : List ℕ) → Answers result (value_of name scales args.now) }
 {
-    match (name, args) {
-        (FnName::Length, [Arg::Text(text)]) => number(text.as_slice().len() as i128),
-        (FnName::Concat, _) => joined(args),
-        (FnName::Substr, [Arg::Text(text), Arg::Num(from), Arg::Num(n)]) => {
+    macro_rules! of {
+        ($args:pat => $value:expr) => {
+            match args {
+                $args => $value,
+                _ => Err(EvalFault::NullUsed),
+            }
+        };
+    }
+    match name {
+        FnName::Length => of!([Arg::Text(text)] => number(text.as_slice().len() as i128)),
+        FnName::Concat => of!([Arg::Text(a), Arg::Text(b)] => joined(a, b)),
+        FnName::Substr => of!([Arg::Text(text), Arg::Num(from), Arg::Num(n)] => {
             text_of(alloc, part(text.as_slice(), *from, *n))
-        }
-        (FnName::Trim, [Arg::Text(text)]) => text_of(alloc, without_spaces(text.as_slice())),
-        _ => Err(EvalFault::NullUsed),
+        }),
+        FnName::Trim => of!([Arg::Text(text)] => text_of(alloc, without_spaces(text.as_slice()))),
+        _ => unreachable!(),
     }
 }

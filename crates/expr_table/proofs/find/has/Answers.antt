@@ -1,4 +1,4 @@
-use Rattle.std.proofs.Common.{◌≡◌, sym}
+use Rattle.std.proofs.Common.{sym}
 use Rattle.std.proofs.lemmas.Slice.Eq.{slice_eq-Decides}
 use Rattle.expr_table.proofs.Names.{name_same, shape_same, has_is, same_test}
 use Rattle.expr_table.proofs.find.has.Goals as goal

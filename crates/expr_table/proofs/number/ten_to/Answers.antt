@@ -1,4 +1,4 @@
-use Rattle.std.proofs.Common.{rules, ◌^◌, ◌≤◌, ◌<◌, arith}
+use Rattle.std.proofs.Common.{rules, ◌^◌, ◌≤◌, arith}
 use Rattle.std.proofs.Math.Nat.{pow-le-pow_right}
 use Rattle.expr_table.proofs.number.ten_to.Goals as goal
 
