@@ -10,7 +10,7 @@ use Rattle.expr_read.specs.declared.tree.Expr.{Expr}
 use Rattle.expr_read.specs.declared.what.Level.{Level}
 use Rattle.expr_read.specs.declared.what.Level.TheVariants as level
 use Rattle.expr_read.specs.Marks.{what_of}
-use Rattle.expr_read.specs.Reading.{Read, Reader, behind, link_at, link_by, behind_link, links_at, most_links, chained, chain_from}
+use Rattle.expr_read.specs.Reading.{Read, Reader, behind, link_at, link_by, behind_link, links_at, most_links, chained, chain_from, closes, next_what}
 use Rattle.expr_read.specs.Grammar.{Form, link_phrase, links_phrase, MayStand, chain_form}
 
 -- whether the first token passes
@@ -23,6 +23,7 @@ pub record Reads (F : Form) (go : Lexeme → Bool) (R : Reader) : Type 0 where
   pub sound : (ts : List Lexeme) (e : Expr) (rest : List Lexeme) → R ts ≡ Ok (e, rest) → F e ts rest
   pub all : (e : Expr) (ts rest : List Lexeme) → F e ts rest → goes go rest ≡ false → R ts ≡ Ok (e, rest)
   pub takes : (e : Expr) (ts rest : List Lexeme) → F e ts rest → length rest < length ts
+  pub begins : (e : Expr) (ts rest : List Lexeme) → F e ts rest → closes (next_what ts) ≡ false
 
 -- a pair that was read, by its parts
 pub record Parts {A : Type 0} (x : A × List Lexeme) (a : A) (ts : List Lexeme) : Type 0 where
@@ -180,4 +181,5 @@ chain_reads l F go R apart r = record {
     let few = links_fewer l F r.takes h.1 f.0 rest f.2 in
     let one = r.takes h.0 ts f.0 f.1 in
     omega (arith, few, one);
+  begins = λ e ts rest h. r.begins h.0 ts h.4.0 h.4.1;
 }

@@ -1,3 +1,5 @@
 pub mod Operands
 pub mod Loops
 pub mod Chains
+pub mod Units
+pub mod Grammars
