@@ -163,23 +163,23 @@ pub chain_reads : (l : Level) (F : Form) (go : Lexeme → Bool) (R : Reader) →
 unfolding chain_from
 chain_reads l F go R apart r = record {
   sound = λ ts e rest h.
-    let m = made_of (R ts) (λ first. links_at (most_links l (length first.1)) l R [] first.1 >>= λ links. Ok (chained first.0 links.0, links.1)) e rest h in
-    let n = made_of (links_at (most_links l (length m.left)) l R [] m.left) (λ links. Ok (chained m.value links.0, links.1)) e rest m.second in
-    let p = parts (chained m.value n.value, n.left) e rest n.second in
-    let k = links_sound l F go R r (most_links l (length m.left)) [] n.value m.left n.left n.first in
-    (m.value, k.links, sym p.first ∙ ap (chained m.value) k.whole, may_stand l (length m.left) k.links k.few, (m.left, r.sound ts m.value m.left m.first, subst (λ (us : List Lexeme). links_phrase l F k.links m.left us) p.second k.form));
+      let m = made_of (R ts) (λ first. links_at (most_links l (length first.1)) l R [] first.1 >>= λ links. Ok (chained first.0 links.0, links.1)) e rest h in
+      let n = made_of (links_at (most_links l (length m.left)) l R [] m.left) (λ links. Ok (chained m.value links.0, links.1)) e rest m.second in
+      let p = parts (chained m.value n.value, n.left) e rest n.second in
+      let k = links_sound l F go R r (most_links l (length m.left)) [] n.value m.left n.left n.first in
+      (m.value, k.links, sym p.first ∙ ap (chained m.value) k.whole, may_stand l (length m.left) k.links k.few, (m.left, r.sound ts m.value m.left m.first, subst (λ (us : List Lexeme). links_phrase l F k.links m.left us) p.second k.form));
   all = λ e ts rest h g.
-    let s = stops_both go l rest g in
-    let f = h.4 in
-    let few = links_fewer l F r.takes h.1 f.0 rest f.2 in
-    let first : R ts ≡ Ok (h.0, f.0) = r.all h.0 ts f.0 f.1 (front_apart l F go apart h.1 f.0 rest f.2 s.0) in
-    let more : links_at (most_links l (length f.0)) l R [] f.0 ≡ Ok (h.1, rest) = links_all l F go R r apart (most_links l (length f.0)) [] h.1 f.0 rest (enough l (length f.0) h.1 h.3 (omega (arith, few))) f.2 s.0 s.1 in
-    ap (λ (v : Read Expr). v >>= λ first. links_at (most_links l (length first.1)) l R [] first.1 >>= λ links. Ok (chained first.0 links.0, links.1)) first
-    ∙ (ap (λ (v : Read (List (Link × Expr))). v >>= λ links. Ok (chained h.0 links.0, links.1)) more ∙ ap (λ (x : Expr). Ok (x, rest)) (sym h.2));
+      let s = stops_both go l rest g in
+      let f = h.4 in
+      let few = links_fewer l F r.takes h.1 f.0 rest f.2 in
+      let first : R ts ≡ Ok (h.0, f.0) = r.all h.0 ts f.0 f.1 (front_apart l F go apart h.1 f.0 rest f.2 s.0) in
+      let more : links_at (most_links l (length f.0)) l R [] f.0 ≡ Ok (h.1, rest) = links_all l F go R r apart (most_links l (length f.0)) [] h.1 f.0 rest (enough l (length f.0) h.1 h.3 (omega (arith, few))) f.2 s.0 s.1 in
+      ap (λ (v : Read Expr). v >>= λ first. links_at (most_links l (length first.1)) l R [] first.1 >>= λ links. Ok (chained first.0 links.0, links.1)) first
+      ∙ (ap (λ (v : Read (List (Link × Expr))). v >>= λ links. Ok (chained h.0 links.0, links.1)) more ∙ ap (λ (x : Expr). Ok (x, rest)) (sym h.2));
   takes = λ e ts rest h.
-    let f = h.4 in
-    let few = links_fewer l F r.takes h.1 f.0 rest f.2 in
-    let one = r.takes h.0 ts f.0 f.1 in
-    omega (arith, few, one);
+      let f = h.4 in
+      let few = links_fewer l F r.takes h.1 f.0 rest f.2 in
+      let one = r.takes h.0 ts f.0 f.1 in
+      omega (arith, few, one);
   begins = λ e ts rest h. r.begins h.0 ts h.4.0 h.4.1;
 }

@@ -105,16 +105,16 @@ inside F R r =
     let o = or_reads F R r in
     record {
       signed_sound = λ s at t ts e rest h.
-        let m = made_of (R ts) (λ x. Ok (made.Signed at s x.0, x.1)) e rest h in
-        let p = parts (made.Signed at s m.value, m.left) e rest m.second in
-        (m.value, sym p.first, subst (λ (us : List Lexeme). F m.value ts us) p.second (r.sound ts m.value m.left m.first));
+          let m = made_of (R ts) (λ x. Ok (made.Signed at s x.0, x.1)) e rest h in
+          let p = parts (made.Signed at s m.value, m.left) e rest m.second in
+          (m.value, sym p.first, subst (λ (us : List Lexeme). F m.value ts us) p.second (r.sound ts m.value m.left m.first));
       signed_all = λ s at t of ts rest h g. ap (λ (v : Read Expr). v >>= λ x. Ok (made.Signed at s x.0, x.1)) (r.all of ts rest h g);
       bracket_sound = λ t ts e rest h.
-        let m = made_of (or_at R ts) closed e rest h in
-        let k = closed_is m.value e m.left rest m.second in
-        (m.left, subst (λ (x : Expr). or_form F x ts m.left) k.0 (o.sound ts m.value m.left m.first), k.1);
+          let m = made_of (or_at R ts) closed e rest h in
+          let k = closed_is m.value e m.left rest m.second in
+          (m.left, subst (λ (x : Expr). or_form F x ts m.left) k.0 (o.sound ts m.value m.left m.first), k.1);
       bracket_all = λ t e ts rest h.
-        ap (λ (v : Read Expr). v >>= closed) (o.all e ts h.0 h.1 (close_stops go_or ends_go h.0 rest h.2)) ∙ closed_reads e h.0 rest h.2;
+          ap (λ (v : Read Expr). v >>= closed) (o.all e ts h.0 h.1 (close_stops go_or ends_go h.0 rest h.2)) ∙ closed_reads e h.0 rest h.2;
     }
 
 pub unary_form_reads : (n : ℕ) → Reads (unary_form n) opens_token (unary_at n)

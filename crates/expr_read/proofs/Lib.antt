@@ -3,3 +3,4 @@ pub mod Loops
 pub mod Chains
 pub mod Units
 pub mod Grammars
+pub mod Wholes
