@@ -3,9 +3,12 @@ use Rattle.std.proofs.Common.{◌≡◌, ℕ, List, [], ◌∷◌, Option, Some,
 use Rattle.ds_lex.specs.declared.token.Mode.TheVariants.{Inner}
 use Rattle.ds_lex.specs.Lexemes.{Lexeme, lexed_text}
 use Rattle.ds_lex.specs.Reading.{◌>>=◌}
+use Rattle.std.specs.Prelude.{IfOk, IfErr}
+use Rattle.expr_read.specs.declared.fault.ExprFault.{ExprFault}
+use Rattle.expr_read.specs.declared.fault.ExprFault.TheVariants as fault
 use Rattle.expr_read.specs.declared.tree.Expr.{Expr}
-use Rattle.expr_read.specs.Reading.{Read, or_at, unary_at, nothing_left, whole_at, settled, expr_of}
-use Rattle.expr_read.specs.Grammar.{or_form, unary_form, IsSpelled}
+use Rattle.expr_read.specs.Reading.{Read, or_at, unary_at, nothing_left, whole_at, settled, expr_of, Answers}
+use Rattle.expr_read.specs.Grammar.{or_form, unary_form, IsSpelled, SpellsNone}
 use Rattle.expr_read.specs.GrammarLaws.{ReadIsSpelled, SpelledIsRead, RefusedIsNone, OneIsSpelled}
 use Rattle.expr_read.proofs.Grammars.{or_reads, unary_form_reads}
 
@@ -47,3 +50,12 @@ refused_is_none bytes at e h s = let k : (let r : Result Expr ℕ = Ok e in r) �
 
 pub one_is_spelled : OneIsSpelled
 one_is_spelled bytes e other h k = let same : (let r : Result Expr ℕ = Ok e in r) ≡ Ok other = sym (spelled_is_read bytes e h) ∙ spelled_is_read bytes other k in cc
+
+pub answer_spelled : (bytes : List ℕ) (r : Result Expr ExprFault) → Answers r (expr_of bytes) → IfOk r (λ e. IsSpelled bytes e)
+answer_spelled bytes (Ok e) a = read_is_spelled bytes e a
+answer_spelled bytes (Err f) a = tt
+
+pub answer_none : (bytes : List ℕ) (r : Result Expr ExprFault) → Answers r (expr_of bytes) → IfErr r (λ f. SpellsNone f bytes)
+answer_none bytes (Ok e) a = tt
+answer_none bytes (Err (fault.Syntax at)) a = λ e s. refused_is_none bytes at e a s
+answer_none bytes (Err fault.Memory) a = tt

@@ -9,6 +9,8 @@ use Rattle.std.specs.Prelude.{◌≡◌, ◌≤◌, ℕ, zero, suc, List, [], �
 use Rattle.ds_lex.specs.declared.token.Mode.TheVariants.{Inner}
 use Rattle.ds_lex.specs.Lexemes.{Lexeme, lexed_text}
 use Rattle.ds_lex.specs.Phrases.{Phrase, nothing, ◌~◌, ◌<|>◌}
+use Rattle.expr_read.specs.declared.fault.ExprFault.{ExprFault}
+use Rattle.expr_read.specs.declared.fault.ExprFault.TheVariants as fault
 use Rattle.expr_read.specs.declared.tree.Prefix.{Prefix}
 use Rattle.expr_read.specs.declared.tree.Link.{Link}
 use Rattle.expr_read.specs.declared.tree.Expr.{Expr}
@@ -112,3 +114,8 @@ unary_form (suc n) = unary_by (unary_form n) (or_form (unary_form n))
 pub record IsSpelled (bytes : List ℕ) (e : Expr) : Type 0 where
   pub whole : (lexed_text Inner bytes).bad ≡ None
   pub tokens : or_form (unary_form 64) e (lexed_text Inner bytes).lexemes []
+
+-- what is refused spells none
+abbrev pub SpellsNone : ExprFault → List ℕ → Type 0
+SpellsNone (fault.Syntax at) bytes = (e : Expr) → IsSpelled bytes e → ⊥
+SpellsNone fault.Memory bytes = Unit {0}
