@@ -4,3 +4,4 @@ pub mod Chains
 pub mod Units
 pub mod Grammars
 pub mod Wholes
+pub mod Steps
