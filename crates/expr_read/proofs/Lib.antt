@@ -5,3 +5,4 @@ pub mod Units
 pub mod Grammars
 pub mod Wholes
 pub mod Steps
+pub mod CallSteps

@@ -29,6 +29,8 @@ pub record Stuck (F : Form) (R : Reader) (ts left : List Lexeme) : Type 0 where
 pub record Steps (F : Form) (R : Reader) : Type 0 where
   pub took : (ts : List Lexeme) (e : Expr) (rest : List Lexeme) → R ts ≡ Ok (e, rest) → Took F R ts e rest
   pub stuck : (ts left : List Lexeme) → R ts ≡ Err left → Stuck F R ts left
+  pub some : (k : List Lexeme) → (end : List Lexeme) × (e : Expr) × F e (end ++ k) k
+  pub empty : R [] ≡ Err []
 
 -- what was made of what was read, or where reading stopped
 pub record Failed {A B : Type 0} (r : Read A) (f : A × List Lexeme → Read B) (left : List Lexeme) : Type 0 where
@@ -233,3 +235,46 @@ chain_took l F go R r s ts e rest h =
         ∙ (ap (λ (v : Read (List (Link × Expr))). v >>= λ links. Ok (chained m.value links.0, links.1)) (i.same (most_links l (length (i.front ++ more))) more (g ∙ ap first_of (sym p.second)) (most_fuel l m.left (i.front ++ more)))
         ∙ ap (λ (x : Expr). Ok (x, more)) p.first);
     }
+
+chain_stuck : (l : Level) (F : Form) (go : Lexeme → Bool) (R : Reader) → Reads F go R → Steps F R → (ts left : List Lexeme) → chain_from l R ts ≡ Err left → Stuck (chain_form l F) (chain_from l R) ts left
+unfolding chain_from
+chain_stuck l F go R r s ts left h =
+    elim (failed_of (R ts) (then_links l R) left h) [
+      | inl a ↦ (
+          let w = s.stuck ts left a in
+          record {
+            front = w.front;
+            parts = w.parts;
+            begun = λ k. (let b = w.begun k in (b.0, b.1, (b.1, [], refl, none_stand l, (k, b.2, refl))));
+            same = λ more g. ap (λ (v : Read Expr). v >>= then_links l R) (w.same more g);
+          })
+      | inr m ↦ elim (failed_of (links_at (most_links l (length m.behind)) l R [] m.behind) (λ links. (let r : Read Expr = Ok (chained m.value links.0, links.1) in r)) left m.second) [
+        | inl b ↦ (
+            let w = s.took ts m.value m.behind m.first in
+            let i = links_stuck l F go R r s (most_links l (length m.behind)) [] m.behind left b in
+            record {
+              front = w.front ++ i.front;
+              parts = w.parts ∙ (ap (λ (us : List Lexeme). w.front ++ us) i.parts ∙ sym (append_assoc w.front i.front left));
+              begun = λ k. (
+                let c = i.begun k in
+                (c.0, chained m.value c.1, (m.value, c.1, refl, may_stand l (length m.behind) c.1 c.2, (i.front ++ (c.0 ++ k), subst (λ (us : List Lexeme). F m.value us (i.front ++ (c.0 ++ k))) (sym (append_assoc w.front i.front (c.0 ++ k))) (w.fits (i.front ++ (c.0 ++ k))), c.3))));
+              same = λ more g.
+                let read : R ((w.front ++ i.front) ++ more) ≡ Ok (m.value, i.front ++ more) = ap R (append_assoc w.front i.front more) ∙ w.same (i.front ++ more) (first_behind i.front more left g ∙ ap first_of (sym i.parts)) in
+                ap (λ (v : Read Expr). v >>= then_links l R) read
+                ∙ ap (λ (v : Read (List (Link × Expr))). v >>= λ links. (let r : Read Expr = Ok (chained m.value links.0, links.1) in r)) (i.same (most_links l (length (i.front ++ more))) more g (most_fuel l m.behind (i.front ++ more)));
+            })
+        | inr n ↦ absurd (let c : (let r : Read Expr = Ok (chained m.value n.value, n.behind) in r) ≡ Err left = n.second in cc)
+      ]
+    ]
+
+chain_empty : (l : Level) (R : Reader) → R [] ≡ Err [] → chain_from l R [] ≡ Err []
+unfolding chain_from
+chain_empty l R h = ap (λ (v : Read Expr). v >>= then_links l R) h
+
+pub chain_steps : (l : Level) (F : Form) (go : Lexeme → Bool) (R : Reader) → Reads F go R → Steps F R → Steps (chain_form l F) (chain_from l R)
+chain_steps l F go R r s = record {
+  took = chain_took l F go R r s;
+  stuck = chain_stuck l F go R r s;
+  some = λ k. (let b = s.some k in (b.0, b.1, (b.1, [], refl, none_stand l, (k, b.2, refl))));
+  empty = chain_empty l R s.empty;
+}
