@@ -1,17 +1,16 @@
 -- A reader of operands and their grammar give those of a level.
-use Rattle.std.proofs.Common.{◌≡◌, ◌≢◌, ◌≤◌, ◌<◌, ◌+◌, ℕ, zero, suc, List, [], ◌∷◌, ◌++◌, Bool, true, false, Option, Some, None, Result, Ok, Err, length, refl, sym, ap, subst, ◌∙◌, arith, append_assoc}
-use Rattle.std.specs.Prelude.{◌||◌, if◌then◌else◌}
+use Rattle.std.proofs.Common.{◌≡◌, ◌≤◌, ◌<◌, ◌+◌, ℕ, zero, suc, List, [], ◌∷◌, ◌++◌, Bool, true, false, Option, Some, None, Ok, Err, length, refl, sym, ap, subst, ◌∙◌, arith, append_assoc}
+use Rattle.std.specs.Prelude.{◌||◌}
 use Rattle.std.proofs.lemmas.List.{append-nil}
 use Rattle.ds_lex.specs.Lexemes.{Lexeme}
 use Rattle.ds_lex.specs.Reading.{◌>>=◌}
-use Rattle.ds_lex.specs.Phrases.{Phrase, nothing, ◌~◌}
 use Rattle.expr_read.specs.declared.tree.Link.{Link}
 use Rattle.expr_read.specs.declared.tree.Expr.{Expr}
 use Rattle.expr_read.specs.declared.what.Level.{Level}
 use Rattle.expr_read.specs.declared.what.Level.TheVariants as level
 use Rattle.expr_read.specs.Marks.{what_of}
 use Rattle.expr_read.specs.Reading.{Read, Reader, behind, link_at, link_by, behind_link, links_at, most_links, chained, chain_from, closes, next_what}
-use Rattle.expr_read.specs.Grammar.{Form, link_phrase, links_phrase, MayStand, chain_form}
+use Rattle.expr_read.specs.Grammar.{Form, links_phrase, MayStand, chain_form}
 
 -- whether the first token passes
 abbrev pub goes : (Lexeme → Bool) → List Lexeme → Bool

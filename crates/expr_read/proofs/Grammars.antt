@@ -1,23 +1,19 @@
 -- The grammar of expressions and their reading agree.
-use Rattle.std.proofs.Common.{◌≡◌, ◌≢◌, ◌≤◌, ◌<◌, ◌+◌, ℕ, zero, suc, List, [], ◌∷◌, Bool, true, false, Option, Some, None, Result, Ok, Err, length, refl, sym, ap, subst, ◌∙◌, arith}
+use Rattle.std.proofs.Common.{◌≡◌, ℕ, zero, suc, List, Bool, true, false, Ok, refl, sym, ap, subst, ◌∙◌}
 use Rattle.std.specs.Prelude.{◌||◌}
 use Rattle.ds_lex.specs.Lexemes.{Lexeme}
 use Rattle.ds_lex.specs.Reading.{◌>>=◌}
-use Rattle.ds_lex.specs.Phrases.{◌~◌}
-use Rattle.expr_read.specs.declared.tree.Infix.{Infix}
 use Rattle.expr_read.specs.declared.tree.Infix.TheVariants as sign
-use Rattle.expr_read.specs.declared.tree.Prefix.{Prefix}
-use Rattle.expr_read.specs.declared.tree.Link.{Link}
 use Rattle.expr_read.specs.declared.tree.Expr.{Expr}
 use Rattle.expr_read.specs.declared.tree.Expr.TheVariants as made
 use Rattle.expr_read.specs.declared.what.What.{What}
 use Rattle.expr_read.specs.declared.what.What.TheVariants as what
 use Rattle.expr_read.specs.declared.what.Level.{Level}
 use Rattle.expr_read.specs.declared.what.Level.TheVariants as level
-use Rattle.expr_read.specs.Marks.{what_of, joins}
-use Rattle.expr_read.specs.Reading.{Read, Reader, behind, link_by, link_if, opens, closed, nothing_at, signed_by, bracket_by, unary_from, unary_at, or_at, and_at, comparison_at, sum_at, product_at}
-use Rattle.expr_read.specs.Grammar.{Form, mark, unary_by, unary_form, no_form, or_form}
-use Rattle.expr_read.proofs.Chains.{goes, goes_on, is_link, is_some_link, Reads, parts, made_of, chain_reads}
+use Rattle.expr_read.specs.Marks.{what_of}
+use Rattle.expr_read.specs.Reading.{Read, Reader, link_by, opens, closed, nothing_at, signed_by, bracket_by, unary_at, or_at, and_at, comparison_at, sum_at, product_at}
+use Rattle.expr_read.specs.Grammar.{Form, unary_form, no_form, or_form}
+use Rattle.expr_read.proofs.Chains.{goes_on, is_some_link, Reads, parts, made_of, chain_reads}
 use Rattle.expr_read.proofs.Units.{Ends, InnerReads, opens_token, unary_reads, closed_is, closed_reads, close_stops}
 
 -- ---- which tokens go on with a level

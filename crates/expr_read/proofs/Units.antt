@@ -1,10 +1,9 @@
 -- Readers of what stands inside give those of a unary expression.
-use Rattle.std.proofs.Common.{◌≡◌, ◌≢◌, ◌≤◌, ◌<◌, ◌+◌, ℕ, zero, suc, List, [], ◌∷◌, ◌++◌, Bool, true, false, Option, Some, None, Result, Ok, Err, length, refl, sym, ap, subst, ◌∙◌, arith, append_assoc, inl, inr}
-use Rattle.std.specs.Prelude.{◌||◌, if◌then◌else◌, ◌⊎◌}
+use Rattle.std.proofs.Common.{◌≡◌, ◌≤◌, ◌<◌, ◌+◌, ℕ, zero, suc, List, [], ◌∷◌, ◌++◌, Bool, true, false, Some, Ok, Err, length, refl, sym, ap, subst, ◌∙◌, arith, append_assoc, inl, inr}
+use Rattle.std.specs.Prelude.{if◌then◌else◌, ◌⊎◌}
 use Rattle.ds_lex.specs.Lexemes.{Lexeme}
 use Rattle.ds_lex.specs.Reading.{◌>>=◌}
-use Rattle.ds_lex.specs.Phrases.{Phrase, nothing, ◌~◌, ◌<|>◌}
-use Rattle.expr_read.specs.declared.tree.Infix.{Infix}
+use Rattle.ds_lex.specs.Phrases.{◌~◌}
 use Rattle.expr_read.specs.declared.tree.Infix.TheVariants as sign
 use Rattle.expr_read.specs.declared.tree.Prefix.{Prefix}
 use Rattle.expr_read.specs.declared.tree.Prefix.TheVariants as before
@@ -13,9 +12,9 @@ use Rattle.expr_read.specs.declared.tree.Expr.TheVariants as made
 use Rattle.expr_read.specs.declared.what.What.{What}
 use Rattle.expr_read.specs.declared.what.What.TheVariants as what
 use Rattle.expr_read.specs.Marks.{what_of, prefix_of}
-use Rattle.expr_read.specs.Reading.{Read, Reader, behind, next_what, closes, opens, is_comma, close_at, closed, comma_at, after_arg, args_at, call_from, named_from, content, begun, unary_from}
-use Rattle.expr_read.specs.Grammar.{Form, mark, further_args, args_phrase, call_form, bracket_form, signed_form, number_form, quoted_form, column_form, unary_by}
-use Rattle.expr_read.proofs.Chains.{goes, Reads, Parts, parts, Made, made_of}
+use Rattle.expr_read.specs.Reading.{Read, Reader, behind, next_what, closes, opens, is_comma, closed, comma_at, after_arg, args_at, call_from, named_from, content, begun, unary_from}
+use Rattle.expr_read.specs.Grammar.{Form, mark, further_args, args_phrase, call_form, column_form, unary_by}
+use Rattle.expr_read.proofs.Chains.{goes, Reads, parts, made_of}
 
 -- ---- brackets and commas
 

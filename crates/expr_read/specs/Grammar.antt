@@ -7,7 +7,7 @@
 -- The depth of an atom is the number of brackets open at it and of signs whose operand holds it; it is at most 64.
 use Rattle.std.specs.Prelude.{◌≡◌, ◌≤◌, ℕ, zero, suc, List, [], ◌∷◌, length, Some, None}
 use Rattle.ds_lex.specs.declared.token.Mode.TheVariants.{Inner}
-use Rattle.ds_lex.specs.Lexemes.{Lexeme, lexed_text}
+use Rattle.ds_lex.specs.Lexemes.{lexed_text}
 use Rattle.ds_lex.specs.Phrases.{Phrase, nothing, ◌~◌, ◌<|>◌}
 use Rattle.expr_read.specs.declared.fault.ExprFault.{ExprFault}
 use Rattle.expr_read.specs.declared.fault.ExprFault.TheVariants as fault
