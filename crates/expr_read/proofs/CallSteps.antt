@@ -49,3 +49,84 @@ unfolding args_at
 first_stuck R found [] left n e h k = let same : [] ≡ left = (let c : (let r : Read Expr = Err [] in r) ≡ Err left = sym e ∙ h in cc) in args_stuck_zero R found e n ∙ ap (λ (us : List Lexeme). Err us) same
 first_stuck R found (u ∷ us) left zero e h k = absurd (omega arith)
 first_stuck R found (u ∷ us) left (suc n) e h k = ap (λ (v : Read Expr). v >>= λ x. after_arg (found ++ x.0 ∷ []) (comma_at x.1) (λ vs. args_at n R (found ++ x.0 ∷ []) vs)) h
+
+-- one more argument
+args_once : (j : ℕ) (R : Reader) (found : List Expr) (ts us : List Lexeme) (x : Expr) → R ts ≡ Ok (x, us) → args_at (suc j) R found ts ≡ after_arg (found ++ x ∷ []) (comma_at us) (λ vs. args_at j R (found ++ x ∷ []) vs)
+unfolding args_at
+args_once j R found ts us x h = ap (λ (v : Read Expr). v >>= λ y. after_arg (found ++ y.0 ∷ []) (comma_at y.1) (λ vs. args_at j R (found ++ y.0 ∷ []) vs)) h
+
+-- a token that comes, and what stands behind it
+record Split (w : What) (ts : List Lexeme) : Type 0 where
+  token : Lexeme
+  is : what_of token ≡ w
+  parts : ts ≡ token ∷ behind ts
+
+split : (is : What → Bool) (w : What) → ((v : What) → is v ≡ true → v ≡ w) → is what.Other ≡ false → (ts : List Lexeme) → is (next_what ts) ≡ true → Split w ts
+split is w known other [] h = absurd cc
+split is w known other (t ∷ ts) h = record { token = t; is = known (what_of t) h; parts = refl }
+
+mark_split : (w : What) (ts rest : List Lexeme) → mark w ts rest → (t : Lexeme) × (what_of t ≡ w) × (ts ≡ t ∷ rest)
+mark_split w [] rest h = absurd h
+mark_split w (t ∷ ts) rest h = (t, h.0, ap (λ (us : List Lexeme). t ∷ us) h.1)
+
+record ArgsTook (F : Form) (R : Reader) (found all : List Expr) (ts rest : List Lexeme) : Type 0 where
+  front : List Lexeme
+  first : Expr
+  more : List Expr
+  whole : all ≡ found ++ first ∷ more
+  parts : ts ≡ front ++ rest
+  fits : (k : List Lexeme) → ArgsForm F (first ∷ more) (front ++ k) k
+  same : (n : ℕ) (us : List Lexeme) → length (front ++ us) ≤ n → args_at n R found (front ++ us) ≡ Ok (all, us)
+
+comma_same : (F : Form) (R : Reader) (found all : List Expr) (x : Expr) (ts us rest : List Lexeme) (t : Lexeme) (w : Took F R ts x us) (i : ArgsTook F R (found ++ x ∷ []) all (behind us) rest) → what_of t ≡ what.Comma → us ≡ t ∷ behind us → (n : ℕ) (more : List Lexeme) → length ((w.front ++ (t ∷ i.front)) ++ more) ≤ n
+    → args_at n R found ((w.front ++ (t ∷ i.front)) ++ more) ≡ Ok (all, more)
+comma_same F R found all x ts us rest t w i g p zero more h = absurd (omega (arith, h, length-append (w.front ++ (t ∷ i.front)) more, length-append w.front (t ∷ i.front)))
+comma_same F R found all x ts us rest t w i g p (suc n) more h =
+    let read : R ((w.front ++ (t ∷ i.front)) ++ more) ≡ Ok (x, t ∷ (i.front ++ more)) = ap R (append_assoc w.front (t ∷ i.front) more) ∙ w.same (t ∷ (i.front ++ more)) (ap first_of (sym p)) in
+    args_once n R found ((w.front ++ (t ∷ i.front)) ++ more) (t ∷ (i.front ++ more)) x read
+    ∙ (ap (λ (v : What). after_arg (found ++ x ∷ []) (if is_comma v then (true, i.front ++ more) else (false, t ∷ (i.front ++ more))) (λ vs. args_at n R (found ++ x ∷ []) vs)) g
+    ∙ i.same n more (omega (arith, h, length-append (w.front ++ (t ∷ i.front)) more, length-append w.front (t ∷ i.front), length-append i.front more)))
+
+last_same : (F : Form) (R : Reader) (found all : List Expr) (x : Expr) (ts us : List Lexeme) (t : Lexeme) (rest : List Lexeme) (w : Took F R ts x us) → what_of t ≡ what.Close → us ≡ t ∷ rest → found ++ x ∷ [] ≡ all → (n : ℕ) (more : List Lexeme) → length ((w.front ++ (t ∷ [])) ++ more) ≤ n
+    → args_at n R found ((w.front ++ (t ∷ [])) ++ more) ≡ Ok (all, more)
+last_same F R found all x ts us t rest w g p e zero more h = absurd (omega (arith, h, length-append (w.front ++ (t ∷ [])) more, length-append w.front (t ∷ [])))
+last_same F R found all x ts us t rest w g p e (suc n) more h =
+    let read : R ((w.front ++ (t ∷ [])) ++ more) ≡ Ok (x, t ∷ more) = ap R (append_assoc w.front (t ∷ []) more) ∙ w.same (t ∷ more) (ap first_of (sym p)) in
+    args_once n R found ((w.front ++ (t ∷ [])) ++ more) (t ∷ more) x read
+    ∙ (ap (λ (v : What). after_arg (found ++ x ∷ []) (if is_comma v then (true, more) else (false, t ∷ more)) (λ vs. args_at n R (found ++ x ∷ []) vs)) g
+    ∙ (closed_reads (found ++ x ∷ []) (t ∷ more) more (g, refl) ∙ ap (λ (es : List Expr). Ok (es, more)) e))
+
+args_took_by : (b : Bool) (F : Form) (R : Reader) (n : ℕ) (found all : List Expr) (x : Expr) (ts us rest : List Lexeme) → is_comma (next_what us) ≡ b → Took F R ts x us
+    → after_arg (found ++ x ∷ []) (if b then (true, behind us) else (false, us)) (λ vs. args_at n R (found ++ x ∷ []) vs) ≡ Ok (all, rest)
+    → ((more : List Expr) (vs : List Lexeme) → args_at n R more vs ≡ Ok (all, rest) → ArgsTook F R more all vs rest) → ArgsTook F R found all ts rest
+args_took_by true F R n found all x ts us rest g w e again =
+    let i = again (found ++ x ∷ []) (behind us) e in
+    let c = split is_comma what.Comma is_a_comma refl us g in
+    record {
+      front = w.front ++ (c.token ∷ i.front);
+      first = x;
+      more = i.first ∷ i.more;
+      whole = i.whole ∙ append_assoc found (x ∷ []) (i.first ∷ i.more);
+      parts = w.parts ∙ (ap (λ (vs : List Lexeme). w.front ++ vs) (c.parts ∙ ap (λ (vs : List Lexeme). c.token ∷ vs) i.parts) ∙ sym (append_assoc w.front (c.token ∷ i.front) rest));
+      fits = λ k. (let f = i.fits k in (f.0, (c.token ∷ (i.front ++ k), subst (λ (vs : List Lexeme). F x vs (c.token ∷ (i.front ++ k))) (sym (append_assoc w.front (c.token ∷ i.front) k)) (w.fits (c.token ∷ (i.front ++ k))), (i.front ++ k, (c.is, refl), f.1)), f.2));
+      same = comma_same F R found all x ts us rest c.token w i c.is c.parts;
+    }
+args_took_by false F R n found all x ts us rest g w e again =
+    let d = closed_is (found ++ x ∷ []) all us rest e in
+    let c = mark_split what.Close us rest d.1 in
+    record {
+      front = w.front ++ (c.0 ∷ []);
+      first = x;
+      more = [];
+      whole = sym d.0;
+      parts = w.parts ∙ (ap (λ (vs : List Lexeme). w.front ++ vs) c.2 ∙ sym (append_assoc w.front (c.0 ∷ []) rest));
+      fits = λ k. (c.0 ∷ k, (c.0 ∷ k, subst (λ (vs : List Lexeme). F x vs (c.0 ∷ k)) (sym (append_assoc w.front (c.0 ∷ []) k)) (w.fits (c.0 ∷ k)), refl), (c.1, refl));
+      same = last_same F R found all x ts us c.0 rest w c.1 c.2 d.0;
+    }
+
+args_took : (F : Form) (R : Reader) → Steps F R → (n : ℕ) (found all : List Expr) (ts rest : List Lexeme) → args_at n R found ts ≡ Ok (all, rest) → ArgsTook F R found all ts rest
+unfolding args_at
+args_took F R s zero found all ts rest e = absurd cc
+args_took F R s (suc n) found all ts rest e =
+    let m = made_of (R ts) (λ x. after_arg (found ++ x.0 ∷ []) (comma_at x.1) (λ us. args_at n R (found ++ x.0 ∷ []) us)) all rest e in
+    args_took_by (is_comma (next_what m.left)) F R n found all m.value ts m.left rest refl (s.took ts m.value m.left m.first) m.second (λ more vs e'. args_took F R s n more all vs rest e')
