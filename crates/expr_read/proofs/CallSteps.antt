@@ -130,3 +130,99 @@ args_took F R s zero found all ts rest e = absurd cc
 args_took F R s (suc n) found all ts rest e =
     let m = made_of (R ts) (λ x. after_arg (found ++ x.0 ∷ []) (comma_at x.1) (λ us. args_at n R (found ++ x.0 ∷ []) us)) all rest e in
     args_took_by (is_comma (next_what m.left)) F R n found all m.value ts m.left rest refl (s.took ts m.value m.left m.first) m.second (λ more vs e'. args_took F R s n more all vs rest e')
+
+-- ---- where arguments don't go on
+
+no_tokens : (R : Reader) (found : List Expr) (a b : List Lexeme) → length (a ++ b) ≤ 0 → args_at zero R found (a ++ b) ≡ Err b
+unfolding args_at
+no_tokens R found [] b h = refl
+no_tokens R found (t ∷ a) b h = absurd (omega arith)
+
+comma_stuck : (F : Form) (R : Reader) (found : List Expr) (x : Expr) (ts us left : List Lexeme) (t : Lexeme) (w : Took F R ts x us) (i : ArgsStuck F R (found ++ x ∷ []) (behind us) left) → what_of t ≡ what.Comma → us ≡ t ∷ behind us → (n : ℕ) (more : List Lexeme) → first_of more ≡ first_of left → length ((w.front ++ (t ∷ i.front)) ++ more) ≤ n
+    → args_at n R found ((w.front ++ (t ∷ i.front)) ++ more) ≡ Err more
+comma_stuck F R found x ts us left t w i g p zero more f h = absurd (omega (arith, h, length-append (w.front ++ (t ∷ i.front)) more, length-append w.front (t ∷ i.front)))
+comma_stuck F R found x ts us left t w i g p (suc n) more f h =
+    let read : R ((w.front ++ (t ∷ i.front)) ++ more) ≡ Ok (x, t ∷ (i.front ++ more)) = ap R (append_assoc w.front (t ∷ i.front) more) ∙ w.same (t ∷ (i.front ++ more)) (ap first_of (sym p)) in
+    args_once n R found ((w.front ++ (t ∷ i.front)) ++ more) (t ∷ (i.front ++ more)) x read
+    ∙ (ap (λ (v : What). after_arg (found ++ x ∷ []) (if is_comma v then (true, i.front ++ more) else (false, t ∷ (i.front ++ more))) (λ vs. args_at n R (found ++ x ∷ []) vs)) g
+    ∙ i.same n more f (omega (arith, h, length-append (w.front ++ (t ∷ i.front)) more, length-append w.front (t ∷ i.front), length-append i.front more)))
+
+not_closed : {A : Type 0} (x : A) (us : List Lexeme) → closes (next_what us) ≡ false → closed (x, us) ≡ Err us
+not_closed x us h = rw h refl
+
+closed_fails_by : {A : Type 0} (b : Bool) (x : A) (us left : List Lexeme) → closes (next_what us) ≡ b → ((if b then Ok (tt, behind us) else (let r : Read (Unit {0}) = Err us in r)) >>= λ u. (let r : Read A = Ok (x, u.1) in r)) ≡ Err left → (closes (next_what us) ≡ false) × (us ≡ left)
+closed_fails_by true x us left g e = absurd cc
+closed_fails_by false x us left g e = (g, (let same : us ≡ left = cc in same))
+
+closed_fails : {A : Type 0} (x : A) (us left : List Lexeme) → closed (x, us) ≡ Err left → (closes (next_what us) ≡ false) × (us ≡ left)
+closed_fails x us left e = closed_fails_by (closes (next_what us)) x us left refl e
+
+open_stuck : (F : Form) (R : Reader) (found : List Expr) (x : Expr) (ts us : List Lexeme) (w : Took F R ts x us) → is_comma (next_what us) ≡ false → closes (next_what us) ≡ false → (n : ℕ) (more : List Lexeme) → first_of more ≡ first_of us → length (w.front ++ more) ≤ n → args_at n R found (w.front ++ more) ≡ Err more
+open_stuck F R found x ts us w c d zero more f h = no_tokens R found w.front more h
+open_stuck F R found x ts us w c d (suc n) more f h =
+    let next = next_same us more f in
+    args_once n R found (w.front ++ more) more x (w.same more f)
+    ∙ (ap (λ (b : Bool). after_arg (found ++ x ∷ []) (if b then (true, behind more) else (false, more)) (λ vs. args_at n R (found ++ x ∷ []) vs)) (ap is_comma next ∙ c)
+    ∙ not_closed (found ++ x ∷ []) more (ap closes next ∙ d))
+
+args_stuck_by : (b : Bool) (F : Form) (R : Reader) (n : ℕ) (found : List Expr) (x : Expr) (ts us left : List Lexeme) → is_comma (next_what us) ≡ b → Took F R ts x us
+    → after_arg (found ++ x ∷ []) (if b then (true, behind us) else (false, us)) (λ vs. args_at n R (found ++ x ∷ []) vs) ≡ Err left
+    → ((more : List Expr) → args_at n R more (behind us) ≡ Err left → ArgsStuck F R more (behind us) left) → ArgsStuck F R found ts left
+args_stuck_by true F R n found x ts us left g w e again =
+    let i = again (found ++ x ∷ []) e in
+    let c = split is_comma what.Comma is_a_comma refl us g in
+    record {
+      front = w.front ++ (c.token ∷ i.front);
+      parts = w.parts ∙ (ap (λ (vs : List Lexeme). w.front ++ vs) (c.parts ∙ ap (λ (vs : List Lexeme). c.token ∷ vs) i.parts) ∙ sym (append_assoc w.front (c.token ∷ i.front) left));
+      begun = λ k. (
+        let q = i.begun k in
+        let f = q.3 in
+        let inner = i.front ++ (q.0 ++ k) in
+        (q.0, x, q.1 ∷ q.2, (f.0, (c.token ∷ inner, subst (λ (vs : List Lexeme). F x vs (c.token ∷ inner)) (sym (append_assoc w.front (c.token ∷ i.front) (q.0 ++ k))) (w.fits (c.token ∷ inner)), (inner, (c.is, refl), f.1)), f.2)));
+      same = comma_stuck F R found x ts us left c.token w i c.is c.parts;
+    }
+args_stuck_by false F R n found x ts us left g w e again =
+    let d = closed_fails (found ++ x ∷ []) us left e in
+    record {
+      front = w.front;
+      parts = w.parts ∙ ap (λ (vs : List Lexeme). w.front ++ vs) d.1;
+      begun = λ k. (close_token ∷ [], x, [], (close_token ∷ k, (close_token ∷ k, w.fits (close_token ∷ k), refl), (refl, refl)));
+      same = λ m more f h. open_stuck F R found x ts us w g d.0 m more (f ∙ ap first_of (sym d.1)) h;
+    }
+
+empty_same : (R : Reader) (found : List Expr) → R [] ≡ Err [] → (n : ℕ) (more : List Lexeme) → first_of more ≡ None → args_at n R found more ≡ Err more
+empty_same R found h n [] g = args_stuck_zero R found h n
+empty_same R found h n (t ∷ ts) g = absurd cc
+
+stuck_empty : (F : Form) (R : Reader) → Steps F R → (found : List Expr) (left : List Lexeme) → [] ≡ left → ArgsStuck F R found [] left
+stuck_empty F R s found left e =
+    let known : ArgsStuck F R found [] [] = record {
+      front = [];
+      parts = refl;
+      begun = λ k. (let b = s.some (close_token ∷ k) in (b.0 ++ close_token ∷ [], b.1, [], one_closed F [] b.0 k b.1 b.2));
+      same = λ n more g h. empty_same R found s.empty n more g;
+    } in
+    subst (λ (us : List Lexeme). ArgsStuck F R found [] us) e known
+
+behind_few : (us : List Lexeme) (n : ℕ) → length us ≤ n → length (behind us) ≤ n
+behind_few [] n h = h
+behind_few (t ∷ us) n h = omega arith
+
+args_stuck : (F : Form) (go : Lexeme → Bool) (R : Reader) → Reads F go R → Steps F R → (n : ℕ) (found : List Expr) (ts left : List Lexeme) → length ts ≤ n → args_at n R found ts ≡ Err left → ArgsStuck F R found ts left
+unfolding args_at
+args_stuck F go R r s zero found [] left h e = stuck_empty F R s found left (let same : [] ≡ left = cc in same)
+args_stuck F go R r s zero found (t ∷ ts) left h e = absurd (omega arith)
+args_stuck F go R r s (suc n) found ts left h e =
+    elim (failed_of (R ts) (λ x. after_arg (found ++ x.0 ∷ []) (comma_at x.1) (λ us. args_at n R (found ++ x.0 ∷ []) us)) left e) [
+      | inl a ↦ (
+          let w = s.stuck ts left a in
+          record {
+            front = w.front;
+            parts = w.parts;
+            begun = λ k. (let b = w.begun (close_token ∷ k) in (b.0 ++ close_token ∷ [], b.1, [], one_closed F w.front b.0 k b.1 b.2));
+            same = λ m more g k. first_stuck R found (w.front ++ more) more m s.empty (w.same more g) k;
+          })
+      | inr m ↦ (
+          let fewer : length m.behind < length ts = r.takes m.value ts m.behind (r.sound ts m.value m.behind m.first) in
+          args_stuck_by (is_comma (next_what m.behind)) F R n found m.value ts m.behind left refl (s.took ts m.value m.behind m.first) m.second (λ more e'. args_stuck F go R r s n more (behind m.behind) left (behind_few m.behind n (omega (arith, fewer))) e'))
+    ]
