@@ -9,8 +9,8 @@ use Rattle.expr_read.specs.declared.tree.Expr.{Expr}
 use Rattle.expr_read.specs.declared.what.What.{What}
 use Rattle.expr_read.specs.declared.what.What.TheVariants as what
 use Rattle.expr_read.specs.Marks.{what_of}
-use Rattle.expr_read.specs.Reading.{Read, Reader, behind, next_what, closes, is_comma, close_at, closed, comma_at, after_arg, args_at, call_from}
-use Rattle.expr_read.specs.Grammar.{Form, mark, further_args, args_phrase}
+use Rattle.expr_read.specs.Reading.{Read, Reader, behind, next_what, closes, is_comma, close_at, closed, comma_at, after_arg, args_at, call_from, nothing_at}
+use Rattle.expr_read.specs.Grammar.{Form, mark, further_args, args_phrase, no_form}
 use Rattle.expr_read.proofs.Chains.{Reads, Parts, parts, Made, made_of}
 use Rattle.expr_read.proofs.Units.{is_close, is_a_comma, closed_is, closed_reads, mark_next, mark_fewer, mark_at}
 use Rattle.expr_read.proofs.Steps.{Took, Stuck, Steps, Failed, failed_of, first_behind}
@@ -18,7 +18,7 @@ use Rattle.expr_read.proofs.Steps.{Took, Stuck, Steps, Failed, failed_of, first_
 abbrev pub close_token : Lexeme
 close_token = record { at = 0; sort = sort.Sign; bytes = codes ")" }
 
-next_same : (ts us : List Lexeme) → first_of us ≡ first_of ts → next_what us ≡ next_what ts
+pub next_same : (ts us : List Lexeme) → first_of us ≡ first_of ts → next_what us ≡ next_what ts
 next_same [] [] h = refl
 next_same [] (u ∷ us) h = absurd cc
 next_same (t ∷ ts) [] h = absurd cc
@@ -56,16 +56,16 @@ unfolding args_at
 args_once j R found ts us x h = ap (λ (v : Read Expr). v >>= λ y. after_arg (found ++ y.0 ∷ []) (comma_at y.1) (λ vs. args_at j R (found ++ y.0 ∷ []) vs)) h
 
 -- a token that comes, and what stands behind it
-record Split (w : What) (ts : List Lexeme) : Type 0 where
-  token : Lexeme
-  is : what_of token ≡ w
-  parts : ts ≡ token ∷ behind ts
+pub record Split (w : What) (ts : List Lexeme) : Type 0 where
+  pub token : Lexeme
+  pub is : what_of token ≡ w
+  pub parts : ts ≡ token ∷ behind ts
 
-split : (is : What → Bool) (w : What) → ((v : What) → is v ≡ true → v ≡ w) → is what.Other ≡ false → (ts : List Lexeme) → is (next_what ts) ≡ true → Split w ts
+pub split : (is : What → Bool) (w : What) → ((v : What) → is v ≡ true → v ≡ w) → is what.Other ≡ false → (ts : List Lexeme) → is (next_what ts) ≡ true → Split w ts
 split is w known other [] h = absurd cc
 split is w known other (t ∷ ts) h = record { token = t; is = known (what_of t) h; parts = refl }
 
-mark_split : (w : What) (ts rest : List Lexeme) → mark w ts rest → (t : Lexeme) × (what_of t ≡ w) × (ts ≡ t ∷ rest)
+pub mark_split : (w : What) (ts rest : List Lexeme) → mark w ts rest → (t : Lexeme) × (what_of t ≡ w) × (ts ≡ t ∷ rest)
 mark_split w [] rest h = absurd h
 mark_split w (t ∷ ts) rest h = (t, h.0, ap (λ (us : List Lexeme). t ∷ us) h.1)
 
@@ -147,14 +147,14 @@ comma_stuck F R found x ts us left t w i g p (suc n) more f h =
     ∙ (ap (λ (v : What). after_arg (found ++ x ∷ []) (if is_comma v then (true, i.front ++ more) else (false, t ∷ (i.front ++ more))) (λ vs. args_at n R (found ++ x ∷ []) vs)) g
     ∙ i.same n more f (omega (arith, h, length-append (w.front ++ (t ∷ i.front)) more, length-append w.front (t ∷ i.front), length-append i.front more)))
 
-not_closed : {A : Type 0} (x : A) (us : List Lexeme) → closes (next_what us) ≡ false → closed (x, us) ≡ Err us
+pub not_closed : {A : Type 0} (x : A) (us : List Lexeme) → closes (next_what us) ≡ false → closed (x, us) ≡ Err us
 not_closed x us h = rw h refl
 
 closed_fails_by : {A : Type 0} (b : Bool) (x : A) (us left : List Lexeme) → closes (next_what us) ≡ b → ((if b then Ok (tt, behind us) else (let r : Read (Unit {0}) = Err us in r)) >>= λ u. (let r : Read A = Ok (x, u.1) in r)) ≡ Err left → (closes (next_what us) ≡ false) × (us ≡ left)
 closed_fails_by true x us left g e = absurd cc
 closed_fails_by false x us left g e = (g, (let same : us ≡ left = cc in same))
 
-closed_fails : {A : Type 0} (x : A) (us left : List Lexeme) → closed (x, us) ≡ Err left → (closes (next_what us) ≡ false) × (us ≡ left)
+pub closed_fails : {A : Type 0} (x : A) (us left : List Lexeme) → closed (x, us) ≡ Err left → (closes (next_what us) ≡ false) × (us ≡ left)
 closed_fails x us left e = closed_fails_by (closes (next_what us)) x us left refl e
 
 open_stuck : (F : Form) (R : Reader) (found : List Expr) (x : Expr) (ts us : List Lexeme) (w : Took F R ts x us) → is_comma (next_what us) ≡ false → closes (next_what us) ≡ false → (n : ℕ) (more : List Lexeme) → first_of more ≡ first_of us → length (w.front ++ more) ≤ n → args_at n R found (w.front ++ more) ≡ Err more
@@ -226,3 +226,114 @@ args_stuck F go R r s (suc n) found ts left h e =
           let fewer : length m.behind < length ts = r.takes m.value ts m.behind (r.sound ts m.value m.behind m.first) in
           args_stuck_by (is_comma (next_what m.behind)) F R n found m.value ts m.behind left refl (s.took ts m.value m.behind m.first) m.second (λ more e'. args_stuck F go R r s n more (behind m.behind) left (behind_few m.behind n (omega (arith, fewer))) e'))
     ]
+
+-- ---- calls
+
+pub record CallTook (F : Form) (R : Reader) (args : List Expr) (ts rest : List Lexeme) : Type 0 where
+  pub front : List Lexeme
+  pub parts : ts ≡ front ++ rest
+  pub fits : (k : List Lexeme) → ArgsForm F args (front ++ k) k
+  pub same : (more : List Lexeme) → call_from R (front ++ more) ≡ Ok (args, more)
+
+pub record CallStuck (F : Form) (R : Reader) (ts left : List Lexeme) : Type 0 where
+  pub front : List Lexeme
+  pub parts : ts ≡ front ++ left
+  pub begun : (k : List Lexeme) → (end : List Lexeme) × (args : List Expr) × ArgsForm F args (front ++ (end ++ k)) k
+  pub same : (more : List Lexeme) → first_of more ≡ first_of left → call_from R (front ++ more) ≡ Err more
+
+-- what is taken of a call behind its opening bracket
+pub record CallSteps (F : Form) (R : Reader) : Type 0 where
+  pub took : (ts : List Lexeme) (args : List Expr) (rest : List Lexeme) → call_from R ts ≡ Ok (args, rest) → CallTook F R args ts rest
+  pub stuck : (ts left : List Lexeme) → call_from R ts ≡ Err left → CallStuck F R ts left
+
+no_args : (R : Reader) (t : Lexeme) (us : List Lexeme) → what_of t ≡ what.Close → call_from R (t ∷ us) ≡ Ok ([], us)
+unfolding call_from
+no_args R t us h = rw h refl
+
+some_args : (R : Reader) (ts : List Lexeme) → closes (next_what ts) ≡ false → call_from R ts ≡ args_at (length ts) R [] ts
+unfolding call_from
+some_args R ts h = rw h refl
+
+-- a bracket that closes at once
+closes_at_once : (F : Form) (R : Reader) (args : List Expr) (ts rest : List Lexeme) → closes (next_what ts) ≡ true → (let r : Read (List Expr) = Ok ([], behind ts) in r) ≡ Ok (args, rest) → CallTook F R args ts rest
+closes_at_once F R args ts rest g e =
+    let p = parts ([], behind ts) args rest e in
+    let c = split closes what.Close is_close refl ts g in
+    let known : CallTook F R [] ts (behind ts) = record {
+      front = c.token ∷ [];
+      parts = c.parts;
+      fits = λ k. (c.token ∷ k, refl, (c.is, refl));
+      same = λ more. no_args R c.token more c.is;
+    } in
+    subst (λ (es : List Expr). CallTook F R es ts rest) p.first (subst (λ (us : List Lexeme). CallTook F R [] ts us) p.second known)
+
+call_took_by : (b : Bool) (F : Form) (go : Lexeme → Bool) (R : Reader) → Reads F go R → Steps F R → (ts : List Lexeme) (args : List Expr) (rest : List Lexeme) → closes (next_what ts) ≡ b → (if b then Ok ([], behind ts) else args_at (length ts) R [] ts) ≡ Ok (args, rest) → CallTook F R args ts rest
+call_took_by true F go R r s ts args rest g e = closes_at_once F R args ts rest g e
+call_took_by false F go R r s ts args rest g e =
+    let a = args_took F R s (length ts) [] args ts rest e in
+    record {
+      front = a.front;
+      parts = a.parts;
+      fits = λ k. subst (λ (es : List Expr). ArgsForm F es (a.front ++ k) k) (sym a.whole) (a.fits k);
+      same = λ more.
+        let f = (a.fits more).1 in
+        some_args R (a.front ++ more) (r.begins a.first (a.front ++ more) f.0 f.1) ∙ a.same (length (a.front ++ more)) more (omega arith);
+    }
+
+call_stuck_by : (b : Bool) (F : Form) (go : Lexeme → Bool) (R : Reader) → Reads F go R → Steps F R → (ts left : List Lexeme) → closes (next_what ts) ≡ b → (if b then Ok ([], behind ts) else args_at (length ts) R [] ts) ≡ Err left → CallStuck F R ts left
+call_stuck_by true F go R r s ts left g e = absurd cc
+call_stuck_by false F go R r s ts left g e =
+    let a = args_stuck F go R r s (length ts) [] ts left (omega arith) e in
+    record {
+      front = a.front;
+      parts = a.parts;
+      begun = λ k. (let b = a.begun k in (b.0, b.1 ∷ b.2, b.3));
+      same = λ more f.
+        let next = next_same ts (a.front ++ more) (first_behind a.front more left f ∙ ap first_of (sym a.parts)) in
+        some_args R (a.front ++ more) (ap closes next ∙ g) ∙ a.same (length (a.front ++ more)) more f (omega arith);
+    }
+
+call_took : (F : Form) (go : Lexeme → Bool) (R : Reader) → Reads F go R → Steps F R → (ts : List Lexeme) (args : List Expr) (rest : List Lexeme) → call_from R ts ≡ Ok (args, rest) → CallTook F R args ts rest
+unfolding call_from
+call_took F go R r s ts args rest e = call_took_by (closes (next_what ts)) F go R r s ts args rest refl e
+
+call_stuck : (F : Form) (go : Lexeme → Bool) (R : Reader) → Reads F go R → Steps F R → (ts left : List Lexeme) → call_from R ts ≡ Err left → CallStuck F R ts left
+unfolding call_from
+call_stuck F go R r s ts left e = call_stuck_by (closes (next_what ts)) F go R r s ts left refl e
+
+pub call_steps : (F : Form) (go : Lexeme → Bool) (R : Reader) → Reads F go R → Steps F R → CallSteps F R
+call_steps F go R r s = record { took = call_took F go R r s; stuck = call_stuck F go R r s }
+
+-- ---- where no argument may stand
+
+none_at : (n : ℕ) (found : List Expr) (ts : List Lexeme) → args_at n nothing_at found ts ≡ Err ts
+unfolding args_at
+none_at zero found ts = refl
+none_at (suc n) found ts = refl
+
+none_took_by : (b : Bool) (ts : List Lexeme) (args : List Expr) (rest : List Lexeme) → closes (next_what ts) ≡ b → (if b then Ok ([], behind ts) else args_at (length ts) nothing_at [] ts) ≡ Ok (args, rest) → CallTook no_form nothing_at args ts rest
+none_took_by true ts args rest g e = closes_at_once no_form nothing_at args ts rest g e
+none_took_by false ts args rest g e = absurd (let c : (let r : Read (List Expr) = Err ts in r) ≡ Ok (args, rest) = sym (none_at (length ts) [] ts) ∙ e in cc)
+
+none_stuck_by : (b : Bool) (ts left : List Lexeme) → closes (next_what ts) ≡ b → (if b then Ok ([], behind ts) else args_at (length ts) nothing_at [] ts) ≡ Err left → CallStuck no_form nothing_at ts left
+none_stuck_by true ts left g e = absurd cc
+none_stuck_by false ts left g e =
+    let c : (let r : Read (List Expr) = Err ts in r) ≡ Err left = sym (none_at (length ts) [] ts) ∙ e in
+    let same : ts ≡ left = cc in
+    record {
+      front = [];
+      parts = same;
+      begun = λ k. (close_token ∷ [], [], (close_token ∷ k, refl, (refl, refl)));
+      same = λ more f. some_args nothing_at more (ap closes (next_same ts more (f ∙ ap first_of (sym same))) ∙ g) ∙ none_at (length more) [] more;
+    }
+
+none_took : (ts : List Lexeme) (args : List Expr) (rest : List Lexeme) → call_from nothing_at ts ≡ Ok (args, rest) → CallTook no_form nothing_at args ts rest
+unfolding call_from
+none_took ts args rest e = none_took_by (closes (next_what ts)) ts args rest refl e
+
+none_stuck : (ts left : List Lexeme) → call_from nothing_at ts ≡ Err left → CallStuck no_form nothing_at ts left
+unfolding call_from
+none_stuck ts left e = none_stuck_by (closes (next_what ts)) ts left refl e
+
+pub none_steps : CallSteps no_form nothing_at
+none_steps = record { took = none_took; stuck = none_stuck }

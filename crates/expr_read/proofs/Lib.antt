@@ -6,3 +6,6 @@ pub mod Grammars
 pub mod Wholes
 pub mod Steps
 pub mod CallSteps
+pub mod UnarySteps
+pub mod Firsts
+pub mod OneAnswer
