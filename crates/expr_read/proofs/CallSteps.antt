@@ -1,19 +1,19 @@
 -- What a call's reader takes behind its bracket.
-use Rattle.std.proofs.Common.{◌≡◌, ◌≢◌, ◌≤◌, ◌<◌, ◌+◌, ℕ, zero, suc, List, [], ◌∷◌, ◌++◌, Bool, true, false, Option, Some, None, Result, Ok, Err, length, refl, sym, ap, subst, ◌∙◌, arith, append_assoc, inl, inr, length-append}
-use Rattle.std.specs.Prelude.{◌⊎◌, if◌then◌else◌, codes}
+use Rattle.std.proofs.Common.{◌≡◌, ◌≤◌, ◌<◌, ℕ, zero, suc, List, [], ◌∷◌, ◌++◌, Bool, true, false, None, Ok, Err, length, refl, sym, ap, subst, ◌∙◌, arith, append_assoc, inl, inr, length-append}
+use Rattle.std.specs.Prelude.{if◌then◌else◌, codes}
 use Rattle.ds_lex.specs.declared.token.Sort.TheVariants as sort
 use Rattle.ds_lex.specs.Lexemes.{Lexeme}
 use Rattle.ds_lex.specs.Reading.{◌>>=◌, first_of}
-use Rattle.ds_lex.specs.Phrases.{Phrase, nothing, ◌~◌}
+use Rattle.ds_lex.specs.Phrases.{Phrase, ◌~◌}
 use Rattle.expr_read.specs.declared.tree.Expr.{Expr}
 use Rattle.expr_read.specs.declared.what.What.{What}
 use Rattle.expr_read.specs.declared.what.What.TheVariants as what
 use Rattle.expr_read.specs.Marks.{what_of}
-use Rattle.expr_read.specs.Reading.{Read, Reader, behind, next_what, closes, is_comma, close_at, closed, comma_at, after_arg, args_at, call_from, nothing_at}
-use Rattle.expr_read.specs.Grammar.{Form, mark, further_args, args_phrase, no_form}
-use Rattle.expr_read.proofs.Chains.{Reads, Parts, parts, Made, made_of}
-use Rattle.expr_read.proofs.Units.{is_close, is_a_comma, closed_is, closed_reads, mark_next, mark_fewer, mark_at}
-use Rattle.expr_read.proofs.Steps.{Took, Stuck, Steps, Failed, failed_of, first_behind}
+use Rattle.expr_read.specs.Reading.{Read, Reader, behind, next_what, closes, is_comma, closed, comma_at, after_arg, args_at, call_from, nothing_at}
+use Rattle.expr_read.specs.Grammar.{Form, mark, args_phrase, no_form}
+use Rattle.expr_read.proofs.Chains.{Reads, parts, made_of}
+use Rattle.expr_read.proofs.Units.{is_close, is_a_comma, closed_is, closed_reads}
+use Rattle.expr_read.proofs.Steps.{Took, Steps, failed_of, first_behind}
 
 abbrev pub close_token : Lexeme
 close_token = record { at = 0; sort = sort.Sign; bytes = codes ")" }
@@ -175,10 +175,10 @@ args_stuck_by true F R n found x ts us left g w e again =
       front = w.front ++ (c.token ∷ i.front);
       parts = w.parts ∙ (ap (λ (vs : List Lexeme). w.front ++ vs) (c.parts ∙ ap (λ (vs : List Lexeme). c.token ∷ vs) i.parts) ∙ sym (append_assoc w.front (c.token ∷ i.front) left));
       begun = λ k. (
-        let q = i.begun k in
-        let f = q.3 in
-        let inner = i.front ++ (q.0 ++ k) in
-        (q.0, x, q.1 ∷ q.2, (f.0, (c.token ∷ inner, subst (λ (vs : List Lexeme). F x vs (c.token ∷ inner)) (sym (append_assoc w.front (c.token ∷ i.front) (q.0 ++ k))) (w.fits (c.token ∷ inner)), (inner, (c.is, refl), f.1)), f.2)));
+          let q = i.begun k in
+          let f = q.3 in
+          let inner = i.front ++ (q.0 ++ k) in
+          (q.0, x, q.1 ∷ q.2, (f.0, (c.token ∷ inner, subst (λ (vs : List Lexeme). F x vs (c.token ∷ inner)) (sym (append_assoc w.front (c.token ∷ i.front) (q.0 ++ k))) (w.fits (c.token ∷ inner)), (inner, (c.is, refl), f.1)), f.2)));
       same = comma_stuck F R found x ts us left c.token w i c.is c.parts;
     }
 args_stuck_by false F R n found x ts us left g w e again =
@@ -276,8 +276,8 @@ call_took_by false F go R r s ts args rest g e =
       parts = a.parts;
       fits = λ k. subst (λ (es : List Expr). ArgsForm F es (a.front ++ k) k) (sym a.whole) (a.fits k);
       same = λ more.
-        let f = (a.fits more).1 in
-        some_args R (a.front ++ more) (r.begins a.first (a.front ++ more) f.0 f.1) ∙ a.same (length (a.front ++ more)) more (omega arith);
+          let f = (a.fits more).1 in
+          some_args R (a.front ++ more) (r.begins a.first (a.front ++ more) f.0 f.1) ∙ a.same (length (a.front ++ more)) more (omega arith);
     }
 
 call_stuck_by : (b : Bool) (F : Form) (go : Lexeme → Bool) (R : Reader) → Reads F go R → Steps F R → (ts left : List Lexeme) → closes (next_what ts) ≡ b → (if b then Ok ([], behind ts) else args_at (length ts) R [] ts) ≡ Err left → CallStuck F R ts left
@@ -289,8 +289,8 @@ call_stuck_by false F go R r s ts left g e =
       parts = a.parts;
       begun = λ k. (let b = a.begun k in (b.0, b.1 ∷ b.2, b.3));
       same = λ more f.
-        let next = next_same ts (a.front ++ more) (first_behind a.front more left f ∙ ap first_of (sym a.parts)) in
-        some_args R (a.front ++ more) (ap closes next ∙ g) ∙ a.same (length (a.front ++ more)) more f (omega arith);
+          let next = next_same ts (a.front ++ more) (first_behind a.front more left f ∙ ap first_of (sym a.parts)) in
+          some_args R (a.front ++ more) (ap closes next ∙ g) ∙ a.same (length (a.front ++ more)) more f (omega arith);
     }
 
 call_took : (F : Form) (go : Lexeme → Bool) (R : Reader) → Reads F go R → Steps F R → (ts : List Lexeme) (args : List Expr) (rest : List Lexeme) → call_from R ts ≡ Ok (args, rest) → CallTook F R args ts rest

@@ -1,11 +1,10 @@
 -- Where reading stops is the first place from which no expression goes on.
-use Rattle.std.proofs.Common.{◌≡◌, ℕ, zero, suc, List, [], ◌∷◌, ◌++◌, Bool, true, false, Option, Some, None, Result, Ok, Err, length, refl, sym, ap, subst, ◌∙◌, append_assoc, inl, inr}
-use Rattle.std.specs.Prelude.{◌⊎◌, IfErr}
+use Rattle.std.proofs.Common.{◌≡◌, ℕ, zero, suc, List, [], ◌∷◌, ◌++◌, Option, Some, None, Result, Ok, Err, length, refl, sym, ap, subst, ◌∙◌, append_assoc, inl, inr}
+use Rattle.std.specs.Prelude.{IfErr}
 use Rattle.std.proofs.lemmas.List.{append-nil}
 use Rattle.ds_lex.specs.declared.token.Mode.TheVariants.{Inner}
-use Rattle.ds_lex.specs.Lexemes.{Lexeme, LexedText, lexed_text}
-use Rattle.ds_lex.specs.Reading.{◌>>=◌, first_of, next_place}
-use Rattle.ds_lex.specs.Phrases.{◌~◌}
+use Rattle.ds_lex.specs.Lexemes.{Lexeme, lexed_text}
+use Rattle.ds_lex.specs.Reading.{◌>>=◌, first_of}
 use Rattle.expr_read.specs.declared.fault.ExprFault.{ExprFault}
 use Rattle.expr_read.specs.declared.fault.ExprFault.TheVariants as fault
 use Rattle.expr_read.specs.declared.tree.Prefix.{Prefix}
@@ -14,15 +13,15 @@ use Rattle.expr_read.specs.declared.tree.Expr.TheVariants as made
 use Rattle.expr_read.specs.declared.what.What.TheVariants as what
 use Rattle.expr_read.specs.declared.what.Level.TheVariants as level
 use Rattle.expr_read.specs.Marks.{what_of}
-use Rattle.expr_read.specs.Reading.{Read, Reader, next_what, closes, closed, nothing_at, signed_by, bracket_by, unary_at, or_at, and_at, comparison_at, sum_at, product_at, nothing_left, whole_at, end_place, settled, expr_of, Answers}
-use Rattle.expr_read.specs.Grammar.{Form, mark, no_form, unary_form, or_form, IsSpelled}
-use Rattle.expr_read.specs.First.{Spells, Begins, StopsAt, BreaksOff, IsFirst, IsFirstFault, Refuses}
-use Rattle.expr_read.proofs.Chains.{Reads, Parts, parts, Made, made_of, chain_reads}
+use Rattle.expr_read.specs.Reading.{Read, Reader, closes, closed, nothing_at, signed_by, bracket_by, unary_at, or_at, and_at, comparison_at, sum_at, product_at, nothing_left, whole_at, end_place, settled, expr_of, Answers}
+use Rattle.expr_read.specs.Grammar.{Form, no_form, unary_form, or_form}
+use Rattle.expr_read.specs.First.{Spells, Begins, StopsAt, IsFirst, IsFirstFault, Refuses}
+use Rattle.expr_read.proofs.Chains.{Reads, parts, made_of, chain_reads}
 use Rattle.expr_read.proofs.Units.{opens_token, closed_is, closed_reads}
-use Rattle.expr_read.proofs.Grammars.{apart_product, apart_sum, apart_comparison, apart_and, apart_or, go_product, go_sum, go_comparison, go_and, go_or, or_reads, unary_form_reads}
-use Rattle.expr_read.proofs.Steps.{Took, Stuck, Steps, Failed, failed_of, first_behind, chain_steps}
+use Rattle.expr_read.proofs.Grammars.{apart_product, apart_sum, apart_comparison, apart_and, go_product, go_sum, go_comparison, go_and, go_or, or_reads, unary_form_reads}
+use Rattle.expr_read.proofs.Steps.{Took, Stuck, Steps, failed_of, chain_steps}
 use Rattle.expr_read.proofs.CallSteps.{close_token, next_same, not_closed, closed_fails, mark_split, call_steps, none_steps}
-use Rattle.expr_read.proofs.UnarySteps.{Refused, SignedForm, ClosedForm, InnerSteps, unary_steps}
+use Rattle.expr_read.proofs.UnarySteps.{SignedForm, ClosedForm, InnerSteps, unary_steps}
 
 -- ---- levels
 
@@ -80,8 +79,8 @@ bracket_took F R s t ts e rest h =
       parts = w.parts ∙ (ap (λ (us : List Lexeme). w.front ++ us) c.2 ∙ sym (append_assoc w.front (c.0 ∷ []) rest));
       fits = λ j. (c.0 ∷ j, subst (λ (x : Expr). F x ((w.front ++ c.0 ∷ []) ++ j) (c.0 ∷ j)) k.0 (subst (λ (us : List Lexeme). F m.value us (c.0 ∷ j)) (sym (append_assoc w.front (c.0 ∷ []) j)) (w.fits (c.0 ∷ j))), (c.1, refl));
       same = λ more f.
-        let read : R ((w.front ++ c.0 ∷ []) ++ more) ≡ Ok (m.value, c.0 ∷ more) = ap R (append_assoc w.front (c.0 ∷ []) more) ∙ w.same (c.0 ∷ more) (ap first_of (sym c.2)) in
-        ap (λ (v : Read Expr). v >>= closed) read ∙ (closed_reads m.value (c.0 ∷ more) more (c.1, refl) ∙ ap (λ (x : Expr). Ok (x, more)) k.0);
+          let read : R ((w.front ++ c.0 ∷ []) ++ more) ≡ Ok (m.value, c.0 ∷ more) = ap R (append_assoc w.front (c.0 ∷ []) more) ∙ w.same (c.0 ∷ more) (ap first_of (sym c.2)) in
+          ap (λ (v : Read Expr). v >>= closed) read ∙ (closed_reads m.value (c.0 ∷ more) more (c.1, refl) ∙ ap (λ (x : Expr). Ok (x, more)) k.0);
     }
 
 bracket_stuck : (F : Form) (R : Reader) → Steps F R → (t : Lexeme) (ts left : List Lexeme) → bracket_by R (t ∷ ts) ≡ Err left → Stuck (ClosedForm F) (λ us. bracket_by R (t ∷ us)) ts left
@@ -93,8 +92,8 @@ bracket_stuck F R s t ts left h =
             front = w.front;
             parts = w.parts;
             begun = λ k. (
-              let b = w.begun (close_token ∷ k) in
-              (b.0 ++ close_token ∷ [], b.1, (close_token ∷ k, subst (λ (us : List Lexeme). F b.1 (w.front ++ us) (close_token ∷ k)) (sym (append_assoc b.0 (close_token ∷ []) k)) b.2, (refl, refl))));
+                let b = w.begun (close_token ∷ k) in
+                (b.0 ++ close_token ∷ [], b.1, (close_token ∷ k, subst (λ (us : List Lexeme). F b.1 (w.front ++ us) (close_token ∷ k)) (sym (append_assoc b.0 (close_token ∷ []) k)) b.2, (refl, refl))));
             same = λ more f. ap (λ (v : Read Expr). v >>= closed) (w.same more f);
           })
       | inr m ↦ (
@@ -105,8 +104,8 @@ bracket_stuck F R s t ts left h =
             parts = w.parts ∙ ap (λ (us : List Lexeme). w.front ++ us) d.1;
             begun = λ k. (close_token ∷ [], m.value, (close_token ∷ k, w.fits (close_token ∷ k), (refl, refl)));
             same = λ more f.
-              let first : first_of more ≡ first_of m.behind = f ∙ ap first_of (sym d.1) in
-              ap (λ (v : Read Expr). v >>= closed) (w.same more first) ∙ not_closed m.value more (ap closes (next_same m.behind more first) ∙ d.0);
+                let first : first_of more ≡ first_of m.behind = f ∙ ap first_of (sym d.1) in
+                ap (λ (v : Read Expr). v >>= closed) (w.same more first) ∙ not_closed m.value more (ap closes (next_same m.behind more first) ∙ d.0);
           })
     ]
 

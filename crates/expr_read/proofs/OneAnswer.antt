@@ -1,12 +1,10 @@
 -- A text spells one expression, or has one first place from which no expression goes on.
-use Rattle.std.proofs.Common.{◌≡◌, ℕ, List, [], ◌∷◌, ◌++◌, None, refl, sym, ap, subst, ◌∙◌, append_assoc, inl, inr}
-use Rattle.std.specs.Prelude.{◌⊎◌}
+use Rattle.std.proofs.Common.{◌≡◌, ℕ, List, [], ◌∷◌, ◌++◌, None, sym, ap, subst, ◌∙◌, append_assoc, inl, inr}
 use Rattle.std.proofs.lemmas.List.{append-nil}
 use Rattle.ds_lex.specs.declared.token.Mode.TheVariants.{Inner}
 use Rattle.ds_lex.specs.Lexemes.{Lexeme, LexedText, lexed_text}
 use Rattle.expr_read.specs.declared.tree.Expr.{Expr}
-use Rattle.expr_read.specs.Grammar.{IsSpelled}
-use Rattle.expr_read.specs.First.{Spells, Begins, StopsAt, BreaksOff, IsFirst, IsFirstFault}
+use Rattle.expr_read.specs.First.{Spells, Begins, StopsAt, IsFirst}
 use Rattle.expr_read.specs.FirstLaws.{FaultyIsNone, OneFirstFault}
 
 begins_front : (a b : List Lexeme) → Begins (a ++ b) → Begins a

@@ -1,18 +1,17 @@
 -- A reader takes a front, and looks at no more than the token behind it.
-use Rattle.std.proofs.Common.{◌≡◌, ◌≢◌, ◌≤◌, ◌<◌, ◌+◌, ℕ, zero, suc, List, [], ◌∷◌, ◌++◌, Bool, true, false, Option, Some, None, Result, Ok, Err, length, refl, sym, ap, subst, ◌∙◌, arith, append_assoc, inl, inr, length-append}
-use Rattle.std.specs.Prelude.{◌||◌, ◌⊎◌, if◌then◌else◌}
+use Rattle.std.proofs.Common.{◌≡◌, ◌≤◌, ◌<◌, ℕ, zero, suc, List, [], ◌∷◌, ◌++◌, Bool, Option, Some, None, Ok, Err, length, refl, sym, ap, subst, ◌∙◌, arith, append_assoc, inl, inr, length-append}
+use Rattle.std.specs.Prelude.{◌⊎◌}
 use Rattle.std.proofs.lemmas.List.{append-nil}
 use Rattle.ds_lex.specs.Lexemes.{Lexeme}
 use Rattle.ds_lex.specs.Reading.{◌>>=◌, first_of}
-use Rattle.ds_lex.specs.Phrases.{Phrase, nothing, ◌~◌}
 use Rattle.expr_read.specs.declared.tree.Link.{Link}
 use Rattle.expr_read.specs.declared.tree.Expr.{Expr}
 use Rattle.expr_read.specs.declared.what.Level.{Level}
 use Rattle.expr_read.specs.declared.what.Level.TheVariants as level
 use Rattle.expr_read.specs.Marks.{what_of}
-use Rattle.expr_read.specs.Reading.{Read, Reader, behind, link_at, link_by, behind_link, links_at, most_links, chained, chain_from}
-use Rattle.expr_read.specs.Grammar.{Form, link_phrase, links_phrase, MayStand, chain_form}
-use Rattle.expr_read.proofs.Chains.{Reads, Parts, parts, Made, made_of, links_once, may_stand}
+use Rattle.expr_read.specs.Reading.{Read, Reader, link_at, link_by, behind_link, links_at, most_links, chained, chain_from}
+use Rattle.expr_read.specs.Grammar.{Form, links_phrase, MayStand, chain_form}
+use Rattle.expr_read.proofs.Chains.{Reads, parts, made_of, links_once, may_stand}
 
 pub record Took (F : Form) (R : Reader) (ts : List Lexeme) (e : Expr) (rest : List Lexeme) : Type 0 where
   pub front : List Lexeme
@@ -188,8 +187,8 @@ links_stuck_by l F go R r s k found t ts left (Some link) g e again =
             front = t ∷ (w.front ++ i.front);
             parts = ap (λ (us : List Lexeme). t ∷ us) (w.parts ∙ (ap (λ (us : List Lexeme). w.front ++ us) i.parts ∙ sym (append_assoc w.front i.front left)));
             begun = λ j. (
-              let b = i.begun j in
-              (b.0, (link, m.value) ∷ b.1, omega (arith, b.2), ((w.front ++ i.front) ++ (b.0 ++ j), (g, refl), (i.front ++ (b.0 ++ j), subst (λ (us : List Lexeme). F m.value us (i.front ++ (b.0 ++ j))) (sym (append_assoc w.front i.front (b.0 ++ j))) (w.fits (i.front ++ (b.0 ++ j))), b.3))));
+                let b = i.begun j in
+                (b.0, (link, m.value) ∷ b.1, omega (arith, b.2), ((w.front ++ i.front) ++ (b.0 ++ j), (g, refl), (i.front ++ (b.0 ++ j), subst (λ (us : List Lexeme). F m.value us (i.front ++ (b.0 ++ j))) (sym (append_assoc w.front i.front (b.0 ++ j))) (w.fits (i.front ++ (b.0 ++ j))), b.3))));
             same = λ n more h f. stuck_later l F go R r k found t ts m.behind left link m.value g m.first w i n more h f;
           })
     ]
@@ -230,10 +229,10 @@ chain_took l F go R r s ts e rest h =
       parts = w.parts ∙ (ap (λ (us : List Lexeme). w.front ++ us) (i.parts ∙ ap (λ (us : List Lexeme). i.front ++ us) p.second) ∙ sym (append_assoc w.front i.front rest));
       fits = λ k. (m.value, i.links, sym p.first ∙ ap (chained m.value) i.whole, may_stand l (length m.left) i.links i.few, (i.front ++ k, subst (λ (us : List Lexeme). F m.value us (i.front ++ k)) (sym (append_assoc w.front i.front k)) (w.fits (i.front ++ k)), i.fits k));
       same = λ more g.
-        let read : R ((w.front ++ i.front) ++ more) ≡ Ok (m.value, i.front ++ more) = ap R (append_assoc w.front i.front more) ∙ w.same (i.front ++ more) (first_behind i.front more n.left (g ∙ ap first_of (sym p.second)) ∙ ap first_of (sym i.parts)) in
-        ap (λ (v : Read Expr). v >>= then_links l R) read
-        ∙ (ap (λ (v : Read (List (Link × Expr))). v >>= λ links. Ok (chained m.value links.0, links.1)) (i.same (most_links l (length (i.front ++ more))) more (g ∙ ap first_of (sym p.second)) (most_fuel l m.left (i.front ++ more)))
-        ∙ ap (λ (x : Expr). Ok (x, more)) p.first);
+          let read : R ((w.front ++ i.front) ++ more) ≡ Ok (m.value, i.front ++ more) = ap R (append_assoc w.front i.front more) ∙ w.same (i.front ++ more) (first_behind i.front more n.left (g ∙ ap first_of (sym p.second)) ∙ ap first_of (sym i.parts)) in
+          ap (λ (v : Read Expr). v >>= then_links l R) read
+          ∙ (ap (λ (v : Read (List (Link × Expr))). v >>= λ links. Ok (chained m.value links.0, links.1)) (i.same (most_links l (length (i.front ++ more))) more (g ∙ ap first_of (sym p.second)) (most_fuel l m.left (i.front ++ more)))
+          ∙ ap (λ (x : Expr). Ok (x, more)) p.first);
     }
 
 chain_stuck : (l : Level) (F : Form) (go : Lexeme → Bool) (R : Reader) → Reads F go R → Steps F R → (ts left : List Lexeme) → chain_from l R ts ≡ Err left → Stuck (chain_form l F) (chain_from l R) ts left
@@ -256,12 +255,12 @@ chain_stuck l F go R r s ts left h =
               front = w.front ++ i.front;
               parts = w.parts ∙ (ap (λ (us : List Lexeme). w.front ++ us) i.parts ∙ sym (append_assoc w.front i.front left));
               begun = λ k. (
-                let c = i.begun k in
-                (c.0, chained m.value c.1, (m.value, c.1, refl, may_stand l (length m.behind) c.1 c.2, (i.front ++ (c.0 ++ k), subst (λ (us : List Lexeme). F m.value us (i.front ++ (c.0 ++ k))) (sym (append_assoc w.front i.front (c.0 ++ k))) (w.fits (i.front ++ (c.0 ++ k))), c.3))));
+                  let c = i.begun k in
+                  (c.0, chained m.value c.1, (m.value, c.1, refl, may_stand l (length m.behind) c.1 c.2, (i.front ++ (c.0 ++ k), subst (λ (us : List Lexeme). F m.value us (i.front ++ (c.0 ++ k))) (sym (append_assoc w.front i.front (c.0 ++ k))) (w.fits (i.front ++ (c.0 ++ k))), c.3))));
               same = λ more g.
-                let read : R ((w.front ++ i.front) ++ more) ≡ Ok (m.value, i.front ++ more) = ap R (append_assoc w.front i.front more) ∙ w.same (i.front ++ more) (first_behind i.front more left g ∙ ap first_of (sym i.parts)) in
-                ap (λ (v : Read Expr). v >>= then_links l R) read
-                ∙ ap (λ (v : Read (List (Link × Expr))). v >>= λ links. (let r : Read Expr = Ok (chained m.value links.0, links.1) in r)) (i.same (most_links l (length (i.front ++ more))) more g (most_fuel l m.behind (i.front ++ more)));
+                  let read : R ((w.front ++ i.front) ++ more) ≡ Ok (m.value, i.front ++ more) = ap R (append_assoc w.front i.front more) ∙ w.same (i.front ++ more) (first_behind i.front more left g ∙ ap first_of (sym i.parts)) in
+                  ap (λ (v : Read Expr). v >>= then_links l R) read
+                  ∙ ap (λ (v : Read (List (Link × Expr))). v >>= λ links. (let r : Read Expr = Ok (chained m.value links.0, links.1) in r)) (i.same (most_links l (length (i.front ++ more))) more g (most_fuel l m.behind (i.front ++ more)));
             })
         | inr n ↦ absurd (let c : (let r : Read Expr = Ok (chained m.value n.value, n.behind) in r) ≡ Err left = n.second in cc)
       ]

@@ -1,5 +1,5 @@
 -- What the readers of unary expressions take, and where they don't go on.
-use Rattle.std.proofs.Common.{◌≡◌, ◌≤◌, ◌<◌, ◌+◌, ℕ, zero, suc, List, [], ◌∷◌, ◌++◌, Bool, true, false, Option, Some, None, Result, Ok, Err, length, refl, sym, ap, subst, ◌∙◌, arith, append_assoc, inl, inr}
+use Rattle.std.proofs.Common.{◌≡◌, ℕ, List, [], ◌∷◌, ◌++◌, Bool, true, false, Some, None, Ok, Err, refl, sym, ap, subst, ◌∙◌, inl, inr}
 use Rattle.std.specs.Prelude.{◌⊎◌, if◌then◌else◌}
 use Rattle.ds_lex.specs.declared.token.Sort.TheVariants as sort
 use Rattle.ds_lex.specs.Lexemes.{Lexeme}
@@ -13,12 +13,12 @@ use Rattle.expr_read.specs.declared.tree.Expr.TheVariants as made
 use Rattle.expr_read.specs.declared.what.What.{What}
 use Rattle.expr_read.specs.declared.what.What.TheVariants as what
 use Rattle.expr_read.specs.Marks.{what_of, prefix_of}
-use Rattle.expr_read.specs.Reading.{Read, Reader, behind, next_what, closes, opens, closed, args_at, call_from, named_from, content, begun, unary_from, nothing_at}
-use Rattle.expr_read.specs.Grammar.{Form, mark, args_phrase, call_form, column_form, unary_by, no_form}
-use Rattle.expr_read.proofs.Chains.{Reads, Parts, parts, Made, made_of}
+use Rattle.expr_read.specs.Reading.{Read, Reader, behind, next_what, opens, call_from, named_from, content, begun, unary_from}
+use Rattle.expr_read.specs.Grammar.{Form, mark, call_form, column_form, unary_by}
+use Rattle.expr_read.proofs.Chains.{parts, made_of}
 use Rattle.expr_read.proofs.Units.{is_open}
-use Rattle.expr_read.proofs.Steps.{Took, Stuck, Steps, Failed, failed_of, first_behind}
-use Rattle.expr_read.proofs.CallSteps.{close_token, next_same, ArgsForm, Split, split, CallTook, CallStuck, CallSteps}
+use Rattle.expr_read.proofs.Steps.{Took, Stuck, Steps, failed_of}
+use Rattle.expr_read.proofs.CallSteps.{next_same, split, CallSteps}
 
 -- ---- columns and calls
 

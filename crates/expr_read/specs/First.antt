@@ -1,5 +1,5 @@
 -- The first place from which no expression goes on: that of the first token with which none does, or the end of the tokens.
-use Rattle.std.specs.Prelude.{◌≡◌, ◌⊎◌, ℕ, List, [], ◌∷◌, ◌++◌, length, Option, None}
+use Rattle.std.specs.Prelude.{◌≡◌, ◌⊎◌, ℕ, List, [], ◌∷◌, ◌++◌, length, None}
 use Rattle.ds_lex.specs.declared.token.Mode.TheVariants.{Inner}
 use Rattle.ds_lex.specs.Lexemes.{Lexeme, LexedText, lexed_text}
 use Rattle.expr_read.specs.declared.fault.ExprFault.{ExprFault}
