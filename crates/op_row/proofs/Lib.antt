@@ -1,0 +1,4 @@
+pub mod Standing
+pub mod Means
+pub mod Copies
+pub mod Examples

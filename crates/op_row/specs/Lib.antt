@@ -1,0 +1,3 @@
+pub mod ByRow
+pub mod AreStreams
+pub mod Laws
