@@ -1,0 +1,9 @@
+pub mod Digits
+pub mod Dates
+pub mod Uses
+pub mod Trees
+pub mod Fits
+pub mod FitsTrees
+pub mod Evals
+pub mod Assigns
+pub mod Sound

@@ -1,0 +1,5 @@
+pub mod Calls
+pub mod Groups
+pub mod Meaning
+pub mod Scales
+pub mod TableRows
