@@ -1,3 +1,6 @@
 pub mod ByRow
+pub mod Judging
+pub mod Expressed
+pub mod Verdicts
 pub mod AreStreams
 pub mod Laws

@@ -1,7 +1,11 @@
 ghost use Rattle.std.specs.Prelude.{◌≡◌, IfOk, true, []};
+ghost use Rattle.ds_schema.specs.Schemas.{row_fits};
+ghost use Rattle.expr_table.specs.declared.entry.Shape.TheVariants as shape;
 ghost use Rattle.op_row.specs.ByRow.{copier_stream, modify_stream, each_row, has_columns};
+ghost use Rattle.op_row.specs.Expressed.{filter_stream};
 
-use crate::{Copier, Modify};
+use crate::{Copier, Filter, Modify};
+use ds_expr::Typed;
 use ds_value::NoMemory;
 use op_base::Operator;
 use std::alloc::Global;
@@ -22,4 +26,14 @@ pub fn modify(alloc: Global, cols: Vec<u32>) -> Result<Modify, NoMemory>
     ensures stands { IfOk result (λ op. ⟦<Modify as Operator>⟧.Stands op []) }
 {
     Ok(Modify::new(alloc, cols))
+}
+
+/// The rows of which a test is true. The others go to a second output with `reject`.
+pub fn filter(alloc: Global, test: Typed, reject: bool) -> Result<Filter, NoMemory>
+    requires { test.typing.shape ≡ shape.Truth }
+    ensures stream { IfOk result (λ op. ⟦<Filter as Operator>⟧.stream op ≡ filter_stream test reject) }
+    ensures suits { IfOk result (λ op. ⟦<Filter as Operator>⟧.suits op ≡ each_row (row_fits test.fields)) }
+    ensures stands { IfOk result (λ op. ⟦<Filter as Operator>⟧.Stands op []) }
+{
+    Ok(Filter::new(alloc, test, reject))
 }

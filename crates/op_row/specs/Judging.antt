@@ -1,0 +1,73 @@
+-- What expressions say of one row: a test, a case, the values that are set, or a fault.
+use Rattle.std.specs.Prelude.{ℕ, ℤ, Bool, true, false, List, [], ◌∷◌, take, Option, Some, None, Result, Ok, Err}
+use Rattle.std.specs.Ordering.{int_eq}
+use Rattle.std.specs.List.{flat_map, position}
+use Rattle.ds_value.specs.declared.value.Value.{Value}
+use Rattle.ds_value.specs.Canonical.{canonical_bytes}
+use Rattle.op_base.specs.declared.fault.Fault.{Fault}
+use Rattle.op_base.specs.declared.fault.FaultKind.{FaultKind}
+use Rattle.op_base.specs.declared.fault.FaultKind.TheVariants as kind
+use Rattle.op_base.specs.Columns.{Row}
+use Rattle.op_base.specs.RowOperators.{Judged, yes, no, fails, Case, case, other, case_fails, Computed, computed, compute_fails}
+use Rattle.expr_table.specs.declared.arg.Arg.{Arg}
+use Rattle.expr_table.specs.declared.arg.Arg.TheVariants.{Num, Truth}
+use Rattle.expr_table.specs.declared.arg.EvalFault.{EvalFault}
+use Rattle.expr_table.specs.declared.arg.EvalFault.TheVariants as eval
+use Rattle.expr_table.specs.Meaning.{◌>>=◌}
+use Rattle.ds_expr.specs.Typed.{TypedTree}
+use Rattle.ds_expr.specs.Values.{value_in}
+use Rattle.ds_expr.specs.Assigning.{assigned}
+use Rattle.op_row.specs.declared.setting.Set.{Set}
+
+-- want of memory is the fault of no value
+abbrev pub fault_kind : EvalFault → FaultKind
+fault_kind eval.Overflow = kind.Overflow
+fault_kind eval.ZeroDivisor = kind.ZeroDivisor
+fault_kind eval.NullUsed = kind.NullUsed
+fault_kind eval.TooLong = kind.TooLong
+fault_kind eval.Memory = kind.TooLong
+
+-- the fault of a row, with the first 64 of its canonical bytes; who runs the operator puts its number
+abbrev pub row_fault : EvalFault → Row → Fault
+row_fault why r = record { op = 0; kind = fault_kind why; place = 0; bytes = take 64 (flat_map canonical_bytes r) }
+
+-- only true is yes
+abbrev pub verdict : Row → Result Arg EvalFault → Judged
+verdict r (Ok (Truth true)) = yes
+verdict r (Ok x) = no
+verdict r (Err why) = fails (row_fault why r)
+
+-- what a test says of a row
+abbrev pub judged : TypedTree → Row → Judged
+judged test r = verdict r (value_in r test.node)
+
+abbrev pub case_with : Option ℕ → Case
+case_with (Some i) = case i
+case_with None = other
+
+-- null is none of the cases
+abbrev pub case_in : List ℤ → Row → Result Arg EvalFault → Case
+case_in cases r (Ok (Num z)) = case_with (position (λ c. int_eq c z) cases)
+case_in cases r (Ok x) = other
+case_in cases r (Err why) = case_fails (row_fault why r)
+
+-- the case that a row's number is
+abbrev pub case_of : TypedTree → List ℤ → Row → Case
+case_of on cases r = case_in cases r (value_in r on.node)
+
+-- an expression's value in the input row, assigned to its field
+abbrev pub set_value : Row → Set → Result Value EvalFault
+set_value r set = value_in r set.expr.node >>= assigned set.field set.expr.typing.scale
+
+-- each in turn, until one has a fault
+abbrev pub set_values : Row → List Set → Result (List Value) EvalFault
+set_values r [] = Ok []
+set_values r (set ∷ sets) = set_value r set >>= λ v. set_values r sets >>= λ vs. Ok (v ∷ vs)
+
+abbrev pub computed_in : Row → Result (List Value) EvalFault → Computed
+computed_in r (Ok values) = computed values
+computed_in r (Err why) = compute_fails (row_fault why r)
+
+-- the values that are set in a row, or the first fault
+abbrev pub compute : List Set → Row → Computed
+compute sets r = computed_in r (set_values r sets)
