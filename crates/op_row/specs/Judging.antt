@@ -1,7 +1,7 @@
 -- What expressions say of one row: a test, a case, the values that are set, or a fault.
-use Rattle.std.specs.Prelude.{ℕ, ℤ, Bool, true, false, List, [], ◌∷◌, take, Option, Some, None, Result, Ok, Err}
+use Rattle.std.specs.Prelude.{ℕ, ◌+◌, ℤ, true, if◌then◌else◌, List, [], ◌∷◌, take, Result, Ok, Err}
 use Rattle.std.specs.Ordering.{int_eq}
-use Rattle.std.specs.List.{flat_map, position}
+use Rattle.std.specs.List.{flat_map}
 use Rattle.ds_value.specs.declared.value.Value.{Value}
 use Rattle.ds_value.specs.Canonical.{canonical_bytes}
 use Rattle.op_base.specs.declared.fault.Fault.{Fault}
@@ -41,14 +41,18 @@ verdict r (Err why) = fails (row_fault why r)
 abbrev pub judged : TypedTree → Row → Judged
 judged test r = verdict r (value_in r test.node)
 
-abbrev pub case_with : Option ℕ → Case
-case_with (Some i) = case i
-case_with None = other
+-- the place of a number among the cases, the first of which is the i-th
+abbrev pub case_at : ℤ → ℕ → List ℤ → Case
+case_at z i [] = other
+case_at z i (c ∷ cases) = if int_eq c z then case i else case_at z (i + 1) cases
 
 -- null is none of the cases
+abbrev pub case_with : List ℤ → Arg → Case
+case_with cases (Num z) = case_at z 0 cases
+case_with cases x = other
+
 abbrev pub case_in : List ℤ → Row → Result Arg EvalFault → Case
-case_in cases r (Ok (Num z)) = case_with (position (λ c. int_eq c z) cases)
-case_in cases r (Ok x) = other
+case_in cases r (Ok x) = case_with cases x
 case_in cases r (Err why) = case_fails (row_fault why r)
 
 -- the case that a row's number is

@@ -8,12 +8,14 @@ pub mod laws;
 mod makers;
 mod setting;
 mod sifting;
+mod switching;
 
 pub use copying::Copier;
 pub use keeping::Modify;
-pub use makers::{copier, filter, modify};
+pub use makers::{copier, filter, modify, switcher};
 pub use setting::Set;
 pub use sifting::Filter;
+pub use switching::Switcher;
 
 #[cfg(test)]
 mod tests;

@@ -1,10 +1,10 @@
-ghost use Rattle.std.specs.Prelude.{◌≡◌, IfOk, true, []};
+ghost use Rattle.std.specs.Prelude.{◌≡◌, ◌<◌, ◌^◌, IfOk, true, length, []};
 ghost use Rattle.ds_schema.specs.Schemas.{row_fits};
 ghost use Rattle.expr_table.specs.declared.entry.Shape.TheVariants as shape;
 ghost use Rattle.op_row.specs.ByRow.{copier_stream, modify_stream, each_row, has_columns};
-ghost use Rattle.op_row.specs.Expressed.{filter_stream};
+ghost use Rattle.op_row.specs.Expressed.{filter_stream, switch_stream, IsWhole, AreDistinct};
 
-use crate::{Copier, Filter, Modify};
+use crate::{Copier, Filter, Modify, Switcher};
 use ds_expr::Typed;
 use ds_value::NoMemory;
 use op_base::Operator;
@@ -36,4 +36,22 @@ pub fn filter(alloc: Global, test: Typed, reject: bool) -> Result<Filter, NoMemo
     ensures stands { IfOk result (λ op. ⟦<Filter as Operator>⟧.Stands op []) }
 {
     Ok(Filter::new(alloc, test, reject))
+}
+
+/// Each row to the output of its number's case, counted from 0. The rows of no case go to one
+/// more output with `reject`.
+pub fn switcher(
+    alloc: Global,
+    on: Typed,
+    cases: Vec<i64>,
+    reject: bool,
+) -> Result<Switcher, NoMemory>
+    requires whole { IsWhole on }
+    requires distinct { AreDistinct cases.items }
+    requires few { length cases.items < 2 ^ 32 }
+    ensures stream { IfOk result (λ op. ⟦<Switcher as Operator>⟧.stream op ≡ switch_stream on cases.items reject) }
+    ensures suits { IfOk result (λ op. ⟦<Switcher as Operator>⟧.suits op ≡ each_row (row_fits on.fields)) }
+    ensures stands { IfOk result (λ op. ⟦<Switcher as Operator>⟧.Stands op []) }
+{
+    Ok(Switcher::new(alloc, on, cases, reject))
 }
