@@ -7,7 +7,7 @@ use Rattle.ds_value.specs.declared.value.Value.{Value}
 use Rattle.ds_value.specs.declared.value.Value.TheVariants.{Null, Int, UInt, Dec, Text, Date}
 use Rattle.ds_value.proofs.CanonicalBytes.{fits_held}
 use Rattle.ds_schema.specs.declared.schema.Field.{Field}
-use Rattle.ds_schema.specs.Schemas.{IsField, IsSchema, fits_field, row_fits}
+use Rattle.ds_schema.specs.Schemas.{IsField, fits_field, row_fits}
 
 value_short : (f : Field) (v : Value) → IsField f → fits_field f v ≡ true → IsShort v
 value_short f Null i e = tt
@@ -17,12 +17,9 @@ value_short f (Dec z) i e = tt
 value_short f (Text b) i e = (fits_held f.kind (Text b) i.1 e).1
 value_short f (Date d) i e = tt
 
-each_short : (fs : List Field) (vs : List Value) → AllByRecursion IsField fs → row_fits fs vs ≡ true → All IsShort vs
-each_short [] [] i e k d h = absurd (omega arith)
-each_short [] (v ∷ vs) i e k d h = absurd (cc)
-each_short (f ∷ fs) [] i e k d h = absurd (cc)
-each_short (f ∷ fs) (v ∷ vs) i e zero d h = value_short f v i.0 (and_left _ _ e)
-each_short (f ∷ fs) (v ∷ vs) i e (suc k) d h = each_short fs vs i.1 (and_right _ _ e) k d (omega arith)
-
-pub row_is_short : (fs : List Field) (vs : List Value) → IsSchema fs → row_fits fs vs ≡ true → All IsShort vs
-row_is_short fs vs s e = each_short fs vs s.each e
+pub row_is_short : (fs : List Field) (vs : List Value) → AllByRecursion IsField fs → row_fits fs vs ≡ true → All IsShort vs
+row_is_short [] [] i e k d h = absurd (omega arith)
+row_is_short [] (v ∷ vs) i e k d h = absurd (cc)
+row_is_short (f ∷ fs) [] i e k d h = absurd (cc)
+row_is_short (f ∷ fs) (v ∷ vs) i e zero d h = value_short f v i.0 (and_left _ _ e)
+row_is_short (f ∷ fs) (v ∷ vs) i e (suc k) d h = row_is_short fs vs i.1 (and_right _ _ e) k d (omega arith)

@@ -3,7 +3,7 @@ use Rattle.std.specs.Prelude.{◌≡◌, ◌≤◌, ⊤, ℕ, suc, ◌+◌, ◌=
 use Rattle.std.specs.List.{AllByRecursion}
 use Rattle.ds_value.specs.Kinds.{IsKind}
 use Rattle.ds_schema.specs.declared.schema.Field.{Field}
-use Rattle.op_base.specs.RowOperators.{filter_rule, switch_rule, transform_rule}
+use Rattle.op_base.specs.RowOperators.{RowRule, filter_rule, switch_rule, transform_rule}
 use Rattle.op_base.specs.Standing.{RowStream}
 use Rattle.expr_table.specs.declared.entry.Shape.TheVariants as shape
 use Rattle.ds_expr.specs.Typed.{TypedTree}
@@ -52,6 +52,7 @@ abbrev pub input_fields : List Set → List Field
 input_fields [] = []
 input_fields (set ∷ sets) = set.expr.fields
 
+-- what an expression gives can be assigned to the field
 pub record IsSet (fields : List Field) (set : Set) : Type 0 where
   pub typed : set.expr.fields ≡ fields
   pub kind : IsKind set.field.kind
@@ -61,7 +62,10 @@ pub record AreSets (sets : List Set) : Type 0 where
   pub each : AllByRecursion (IsSet (input_fields sets)) sets
   pub columns : AreTargets (length (input_fields sets)) (targets sets)
 
--- every set sees the input row; a row that faults goes to output 1 with -reject, without a fault
+-- every set sees the input row
+abbrev pub sets_rule : List Set → Bool → RowRule
+sets_rule sets rejects = transform_rule (length (input_fields sets)) (width_after (length (input_fields sets)) (targets sets)) (targets sets) (compute sets) rejects
+
+-- rows with what is set to output 0; a row that faults to output 1 with -reject, without a fault
 abbrev pub transform_stream : List Set → Bool → RowStream
-transform_stream sets rejects =
-    by_row (transform_rule (length (input_fields sets)) (width_after (length (input_fields sets)) (targets sets)) (targets sets) (compute sets) rejects) (with_rejects 1 rejects)
+transform_stream sets rejects = by_row (sets_rule sets rejects) (with_rejects 1 rejects)

@@ -6,7 +6,7 @@ use Rattle.ds_value.specs.declared.value.Value.{Value}
 use Rattle.ds_value.specs.Canonical.{canonical_bytes}
 use Rattle.op_base.specs.declared.fault.Fault.{Fault}
 use Rattle.op_base.specs.declared.fault.FaultKind.{FaultKind}
-use Rattle.op_base.specs.declared.fault.FaultKind.TheVariants as kind
+use Rattle.op_base.specs.declared.fault.FaultKind.TheVariants as fault
 use Rattle.op_base.specs.Columns.{Row}
 use Rattle.op_base.specs.RowOperators.{Judged, yes, no, fails, Case, case, other, case_fails, Computed, computed, compute_fails}
 use Rattle.expr_table.specs.declared.arg.Arg.{Arg}
@@ -21,21 +21,21 @@ use Rattle.op_row.specs.declared.setting.Set.{Set}
 
 -- want of memory is the fault of no value
 abbrev pub fault_kind : EvalFault → FaultKind
-fault_kind eval.Overflow = kind.Overflow
-fault_kind eval.ZeroDivisor = kind.ZeroDivisor
-fault_kind eval.NullUsed = kind.NullUsed
-fault_kind eval.TooLong = kind.TooLong
-fault_kind eval.Memory = kind.TooLong
+fault_kind eval.Overflow = fault.Overflow
+fault_kind eval.ZeroDivisor = fault.ZeroDivisor
+fault_kind eval.NullUsed = fault.NullUsed
+fault_kind eval.TooLong = fault.TooLong
+fault_kind eval.Memory = fault.TooLong
 
 -- the fault of a row, with the first 64 of its canonical bytes; who runs the operator puts its number
-abbrev pub row_fault : EvalFault → Row → Fault
-row_fault why r = record { op = 0; kind = fault_kind why; place = 0; bytes = take 64 (flat_map canonical_bytes r) }
+abbrev pub row_fault : FaultKind → Row → Fault
+row_fault kind r = record { op = 0; kind = kind; place = 0; bytes = take 64 (flat_map canonical_bytes r) }
 
 -- only true is yes
 abbrev pub verdict : Row → Result Arg EvalFault → Judged
 verdict r (Ok (Truth true)) = yes
 verdict r (Ok x) = no
-verdict r (Err why) = fails (row_fault why r)
+verdict r (Err why) = fails (row_fault (fault_kind why) r)
 
 -- what a test says of a row
 abbrev pub judged : TypedTree → Row → Judged
@@ -53,7 +53,7 @@ case_with cases x = other
 
 abbrev pub case_in : List ℤ → Row → Result Arg EvalFault → Case
 case_in cases r (Ok x) = case_with cases x
-case_in cases r (Err why) = case_fails (row_fault why r)
+case_in cases r (Err why) = case_fails (row_fault (fault_kind why) r)
 
 -- the case that a row's number is
 abbrev pub case_of : TypedTree → List ℤ → Row → Case
@@ -70,7 +70,7 @@ set_values r (set ∷ sets) = set_value r set >>= λ v. set_values r sets >>= λ
 
 abbrev pub computed_in : Row → Result (List Value) EvalFault → Computed
 computed_in r (Ok values) = computed values
-computed_in r (Err why) = compute_fails (row_fault why r)
+computed_in r (Err why) = compute_fails (row_fault (fault_kind why) r)
 
 -- the values that are set in a row, or the first fault
 abbrev pub compute : List Set → Row → Computed

@@ -1,7 +1,7 @@
 ghost use Rattle.std.specs.Prelude.{◌≡◌, ◌≢◌, true, All, IfOk};
-ghost use Rattle.std.specs.List.{flat_map};
+ghost use Rattle.std.specs.List.{flat_map, AllByRecursion};
 ghost use Rattle.ds_value.specs.Canonical.{canonical_bytes, IsShort};
-ghost use Rattle.ds_schema.specs.Schemas.{IsSchema, row_fits};
+ghost use Rattle.ds_schema.specs.Schemas.{IsField, row_fits};
 ghost use Rattle.expr_table.specs.declared.arg.EvalFault.TheVariants as eval;
 ghost use Rattle.op_row.specs.Judging.{fault_kind, row_fault};
 
@@ -14,7 +14,8 @@ use std::alloc::Global;
 /// The bytes that a fault keeps.
 const KEPT: usize = 64;
 
-fn kind_of(why: EvalFault) -> Result<FaultKind, NoMemory>
+/// The kind of a fault. Want of memory has none.
+pub fn kind_of(why: EvalFault) -> Result<FaultKind, NoMemory>
     ensures kind { IfOk result (λ kind. kind ≡ fault_kind why) }
     ensures no_memory { IfOk result (λ kind. why ≢ eval.Memory) }
 {
@@ -44,15 +45,13 @@ fn row_bytes(alloc: Global, row: &Row) -> Result<Bytes, NoMemory>
 pub fn row_fault(
     alloc: Global,
     fields: &[Field],
-    why: EvalFault,
+    kind: FaultKind,
     row: &Row,
 ) -> Result<Fault, NoMemory>
-    requires schema { IsSchema fields.now }
+    requires fields { AllByRecursion IsField fields.now }
     requires fits { row_fits fields.now row.now ≡ true }
-    ensures fault { IfOk result (λ fault. fault ≡ row_fault why row.now) }
-    ensures no_memory { IfOk result (λ fault. why ≢ eval.Memory) }
+    ensures { IfOk result (λ fault. fault ≡ row_fault kind row.now) }
 {
-    let kind = kind_of(why)?;
     let mut bytes = row_bytes(alloc, row)?;
     bytes.truncate(KEPT);
     Ok(Fault {

@@ -2,9 +2,9 @@ ghost use Rattle.std.specs.Prelude.{◌≡◌, ◌<◌, ◌^◌, IfOk, true, len
 ghost use Rattle.ds_schema.specs.Schemas.{row_fits};
 ghost use Rattle.expr_table.specs.declared.entry.Shape.TheVariants as shape;
 ghost use Rattle.op_row.specs.ByRow.{copier_stream, modify_stream, each_row, has_columns};
-ghost use Rattle.op_row.specs.Expressed.{filter_stream, switch_stream, IsWhole, AreDistinct};
+ghost use Rattle.op_row.specs.Expressed.{filter_stream, switch_stream, transform_stream, input_fields, IsWhole, AreDistinct, AreSets};
 
-use crate::{Copier, Filter, Modify, Switcher};
+use crate::{Copier, Filter, Modify, Set, Switcher, Transform};
 use ds_expr::Typed;
 use ds_value::NoMemory;
 use op_base::Operator;
@@ -54,4 +54,15 @@ pub fn switcher(
     ensures stands { IfOk result (λ op. ⟦<Switcher as Operator>⟧.Stands op []) }
 {
     Ok(Switcher::new(alloc, on, cases, reject))
+}
+
+/// Rows with columns that are computed from them, each from the row as it came. A row that
+/// faults goes to a second output with `reject`.
+pub fn transform(alloc: Global, sets: Vec<Set>, reject: bool) -> Result<Transform, NoMemory>
+    requires { AreSets sets.items }
+    ensures stream { IfOk result (λ op. ⟦<Transform as Operator>⟧.stream op ≡ transform_stream sets.items reject) }
+    ensures suits { IfOk result (λ op. ⟦<Transform as Operator>⟧.suits op ≡ each_row (row_fits (input_fields sets.items))) }
+    ensures stands { IfOk result (λ op. ⟦<Transform as Operator>⟧.Stands op []) }
+{
+    Ok(Transform::new(alloc, sets, reject))
 }

@@ -7,7 +7,7 @@ ghost use Rattle.op_row.specs.Expressed.{filter_stream, with_rejects};
 ghost use Rattle.op_row.specs.Judging.{judged};
 ghost use Rattle.op_row.specs.Verdicts.{judged_as};
 
-use crate::faulting::row_fault;
+use crate::faulting::{kind_of, row_fault};
 use ds_expr::{Arg, Typed, eval};
 use ds_schema::Row;
 use ds_value::NoMemory;
@@ -39,8 +39,9 @@ fn judge(alloc: Global, test: &Typed, row: &Row) -> Result<Verdict, NoMemory>
         Ok(Arg::Truth(true)) => Ok(Verdict::Yes),
         Ok(_) => Ok(Verdict::No),
         Err(why) => {
+            let kind = kind_of(why)?;
             let fields = test.schema().as_slice();
-            Ok(Verdict::Fails(row_fault(alloc, fields, why, row)?))
+            Ok(Verdict::Fails(row_fault(alloc, fields, kind, row)?))
         }
     }
 }

@@ -7,7 +7,7 @@ ghost use Rattle.op_row.specs.Expressed.{switch_stream, with_rejects};
 ghost use Rattle.op_row.specs.Judging.{case_of, case_with, case_at};
 ghost use Rattle.op_row.specs.Verdicts.{case_as, IsAmong};
 
-use crate::faulting::row_fault;
+use crate::faulting::{kind_of, row_fault};
 use ds_expr::{Arg, Typed, eval};
 use ds_schema::Row;
 use ds_value::NoMemory;
@@ -66,8 +66,9 @@ fn place(alloc: Global, on: &Typed, cases: &[i64], row: &Row) -> Result<Placing,
     match eval(alloc, on, row) {
         Ok(value) => Ok(find_value(cases, value)),
         Err(why) => {
+            let kind = kind_of(why)?;
             let fields = on.schema().as_slice();
-            Ok(Placing::Fails(row_fault(alloc, fields, why, row)?))
+            Ok(Placing::Fails(row_fault(alloc, fields, kind, row)?))
         }
     }
 }
