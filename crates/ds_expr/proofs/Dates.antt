@@ -1,5 +1,5 @@
 -- Dates by their texts.
-use Rattle.std.proofs.Common.{◌≡◌, ◌≤◌, ◌<◌, ℕ, ℤ, pos, List, [], ◌∷◌, Bool, true, false, Option, Some, None, refl, sym, ap, ◌∙◌, take, drop, arith}
+use Rattle.std.proofs.Common.{◌≡◌, ℕ, ℤ, List, Bool, true, false, Some, None, refl, sym, ap, ◌∙◌, take, drop}
 use Rattle.std.specs.Prelude.{if◌then◌else◌, ◌&&◌, nat_le}
 use Rattle.std.specs.Str.{bytes_eq}
 use Rattle.std.specs.Cmp.{first_so, second_so}
@@ -13,7 +13,7 @@ use Rattle.ds_value.specs.Calendar.{IsDate, days_in_month, day_number}
 use Rattle.ds_value.specs.Spellings.{Spells, SpellsDate, number_of, date_text}
 use Rattle.ds_value.proofs.LastDigits.{number_of-last_digits}
 use Rattle.ds_value.proofs.DateTexts.{of_form, date_short, spelled_in_range}
-use Rattle.ds_expr.specs.Literals.{is_date, date_if, date_literal, day_in}
+use Rattle.ds_expr.specs.Literals.{is_date, date_literal, day_in}
 
 is_date_so : (y m d : ℕ) → IsDate y m d → is_date y m d ≡ true
 is_date_so y m d h =

@@ -1,9 +1,9 @@
 -- Numbers by their digits.
-use Rattle.std.proofs.Common.{◌≡◌, ◌≢◌, ◌≤◌, ◌<◌, ◌+◌, ◌-◌, ◌*◌, ◌^◌, ℕ, suc, length, get_or, drop-cons, List, [], ◌∷◌, Bool, true, false, Option, Some, None, nat_lt, refl, arith, drop}
-use Rattle.std.specs.Prelude.{if◌then◌else◌, not, ◌==◌}
+use Rattle.std.proofs.Common.{◌≡◌, ◌≢◌, ◌≤◌, ◌<◌, ◌+◌, ◌-◌, ◌*◌, ◌^◌, ℕ, suc, length, get_or, drop-cons, List, [], ◌∷◌, None, refl, arith, drop}
+use Rattle.std.specs.Prelude.{not, ◌==◌}
 use Rattle.std.specs.List.{filter}
 use Rattle.std.proofs.lemmas.Bool.{le-ltb, ne_eqb}
-use Rattle.ds_value.specs.Spellings.{number_behind, number_of}
+use Rattle.ds_value.specs.Spellings.{number_behind}
 use Rattle.ds_expr.specs.Literals.{units_of, units_below}
 
 pub number_behind-le : (n : ℕ) (ds : List ℕ) → n ≤ number_behind n ds

@@ -1,43 +1,31 @@
 -- The value of a typed tree has its shape and lies in its range.
-use Rattle.std.proofs.Common.{◌≡◌, ◌≢◌, ◌≤◌, ◌<◌, ◌+◌, ◌-◌, ◌^◌, ℕ, zero, suc, ℤ, pos, negsuc, List, [], ◌∷◌, ◌++◌, Option, Some, None, Result, Ok, Err, Bool, true, false, map, length, slice_get, sym, ap, subst, ◌∙◌, refl, arith, FitsSigned, w64}
-use Rattle.std.specs.Prelude.{nat_lt, nat_le, unsigned_abs, ◌&&◌, ◌||◌, not, ◌==◌, if◌then◌else◌}
-use Rattle.std.specs.List.{AllByRecursion, list_all, position_from}
+use Rattle.std.proofs.Common.{◌≡◌, ◌≤◌, ◌+◌, ◌-◌, ℕ, suc, List, [], ◌∷◌, Option, Some, None, Result, Ok, Bool, true, false, slice_get, sym, ap, subst, ◌∙◌, refl, arith}
+use Rattle.std.specs.Prelude.{nat_le, ◌&&◌, ◌==◌, if◌then◌else◌}
+use Rattle.std.specs.List.{position_from}
 use Rattle.std.specs.Cmp.{first_so, second_so}
 use Rattle.std.specs.Str.{bytes_eq}
-use Rattle.std.proofs.lemmas.Bool.{leb-true, ltb-true, eqb-true}
-use Rattle.std.proofs.lemmas.Int.{ints}
+use Rattle.std.proofs.lemmas.Bool.{leb-true, eqb-true}
 use Rattle.std.proofs.lemmas.Slice.Eq.{bytes_eq-Decides}
-use Rattle.std.proofs.Math.Nat.{pow-le-pow_right}
-use Rattle.ds_value.specs.declared.kind.Kind.{Kind}
-use Rattle.ds_value.specs.declared.kind.Kind.TheVariants as kind
 use Rattle.ds_value.specs.declared.value.Value.{Value}
-use Rattle.ds_value.specs.declared.value.Value.TheVariants as value
-use Rattle.ds_value.specs.Kinds.{IsKind, fits_kind}
-use Rattle.ds_value.proofs.CanonicalBytes.{fits_held}
 use Rattle.ds_schema.specs.declared.schema.Field.{Field}
-use Rattle.ds_schema.specs.Schemas.{IsSchema, IsField, fits_field, row_fits}
-use Rattle.ds_schema.specs.Rows.{at}
 use Rattle.expr_table.specs.declared.entry.Shape.{Shape}
-use Rattle.expr_table.specs.declared.entry.Shape.TheVariants as shape
 use Rattle.expr_table.specs.declared.entry.FnName.{FnName}
-use Rattle.expr_table.specs.declared.entry.FnName.TheVariants as fn
 use Rattle.expr_table.specs.declared.entry.Entry.{Entry}
 use Rattle.expr_table.specs.declared.arg.Arg.{Arg}
-use Rattle.expr_table.specs.declared.arg.Arg.TheVariants.{Null, Num, Text, Date, Truth}
 use Rattle.expr_table.specs.declared.arg.EvalFault.{EvalFault}
-use Rattle.expr_table.specs.TableRows.{rows, row_with, shapes, has, Has}
-use Rattle.expr_table.specs.Calls.{HasShape, HaveShapes, IsInRange, AreInRange, AreSmall}
-use Rattle.expr_table.specs.Meaning.{◌>>=◌, value_of}
+use Rattle.expr_table.specs.TableRows.{rows, shapes, has}
+use Rattle.expr_table.specs.Calls.{HasShape, HaveShapes, AreInRange, AreSmall}
+use Rattle.expr_table.specs.Meaning.{value_of}
 use Rattle.expr_table.proofs.Names.{has_is}
 use Rattle.expr_table.proofs.RowResults.{results_fit}
 use Rattle.ds_expr.specs.declared.node.Typing.{Typing}
 use Rattle.ds_expr.specs.declared.node.Applied.{Applied}
 use Rattle.ds_expr.specs.declared.node.Node.{Node}
 use Rattle.ds_expr.specs.declared.node.Use.{Use}
-use Rattle.ds_expr.specs.Typing.{typing_in, typing_of_use, typing_of_kind, typing_of_number, literal_typing, column_typing, agreed, are_small, use_of, shapes_of, scales_of, result_in, all_typed, then_some, typings_joined}
-use Rattle.ds_expr.specs.Values.{value_in, values, arg_of, applied, branch, chosen, called, is_if, decides, joined, all_joined, then_joined, valued_link, Valued}
+use Rattle.ds_expr.specs.Typing.{typing_in, typing_of_use, agreed, are_small, use_of, shapes_of, scales_of, result_in}
+use Rattle.ds_expr.specs.Values.{value_in, applied}
 use Rattle.ds_expr.specs.Typed.{Fits}
-use Rattle.ds_expr.proofs.Sound.{UseIs, use_is}
+use Rattle.ds_expr.proofs.Sound.{use_is}
 
 abbrev pub NodeFits : List Field → List Value → Node → Type 0
 NodeFits fields row node = (t : Typing) (v : Arg) → typing_in fields node ≡ Some t → value_in row node ≡ Ok v → Fits t v

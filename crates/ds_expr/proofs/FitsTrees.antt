@@ -1,9 +1,9 @@
 -- The value of a typed tree has its shape and lies in its range, from the leaves on.
-use Rattle.std.proofs.Common.{◌≡◌, ◌≢◌, ◌≤◌, ◌<◌, ◌+◌, ◌-◌, ◌^◌, ℕ, zero, suc, ℤ, pos, negsuc, List, [], ◌∷◌, ◌++◌, Option, Some, None, Result, Ok, Err, Bool, true, false, map, length, slice_get, sym, ap, subst, ◌∙◌, refl, arith, FitsSigned, w64, append_assoc}
-use Rattle.std.specs.Prelude.{nat_lt, nat_le, unsigned_abs, ◌&&◌, ◌||◌, not, ◌==◌, if◌then◌else◌}
+use Rattle.std.proofs.Common.{◌≡◌, ◌≤◌, ◌<◌, ◌^◌, ℕ, zero, suc, ℤ, pos, negsuc, List, [], ◌∷◌, ◌++◌, Option, Some, None, Result, Ok, Err, Bool, true, false, map, slice_get, sym, ap, subst, ◌∙◌, refl, arith, FitsSigned, w64, append_assoc}
+use Rattle.std.specs.Prelude.{nat_lt, nat_le, unsigned_abs, ◌&&◌, ◌||◌, not, if◌then◌else◌}
 use Rattle.std.specs.List.{AllByRecursion, list_all}
 use Rattle.std.specs.Cmp.{first_so, second_so}
-use Rattle.std.proofs.lemmas.Bool.{leb-true, ltb-true}
+use Rattle.std.proofs.lemmas.Bool.{ltb-true}
 use Rattle.std.proofs.lemmas.Int.{ints}
 use Rattle.std.proofs.lemmas.List.{append-nil}
 use Rattle.std.proofs.Math.Nat.{pow-le-pow_right}
@@ -14,7 +14,7 @@ use Rattle.ds_value.specs.declared.value.Value.TheVariants as value
 use Rattle.ds_value.specs.Kinds.{IsKind, fits_kind}
 use Rattle.ds_value.proofs.CanonicalBytes.{fits_held}
 use Rattle.ds_schema.specs.declared.schema.Field.{Field}
-use Rattle.ds_schema.specs.Schemas.{IsSchema, IsField, fits_field, row_fits}
+use Rattle.ds_schema.specs.Schemas.{IsField, fits_field, row_fits}
 use Rattle.ds_schema.specs.Rows.{at}
 use Rattle.expr_table.specs.declared.entry.Shape.{Shape}
 use Rattle.expr_table.specs.declared.entry.Shape.TheVariants as shape
@@ -24,9 +24,9 @@ use Rattle.expr_table.specs.declared.entry.Entry.{Entry}
 use Rattle.expr_table.specs.declared.arg.Arg.{Arg}
 use Rattle.expr_table.specs.declared.arg.Arg.TheVariants.{Null, Num, Text, Date, Truth}
 use Rattle.expr_table.specs.declared.arg.EvalFault.{EvalFault}
-use Rattle.expr_table.specs.TableRows.{rows, shapes}
-use Rattle.expr_table.specs.Calls.{HasShape, HaveShapes, IsInRange, AreInRange}
-use Rattle.expr_table.specs.Meaning.{◌>>=◌, value_of}
+use Rattle.expr_table.specs.TableRows.{rows}
+use Rattle.expr_table.specs.Calls.{HasShape, HaveShapes, AreInRange}
+use Rattle.expr_table.specs.Meaning.{◌>>=◌}
 use Rattle.ds_expr.specs.declared.node.Typing.{Typing}
 use Rattle.ds_expr.specs.declared.node.Applied.{Applied}
 use Rattle.ds_expr.specs.declared.node.Node.{Node}
@@ -202,7 +202,7 @@ chosen_fits fields row u (a ∷ b ∷ c ∷ []) ts t v h g r e =
     let whole : ts ≡ fa.typing ∷ fb.typing ∷ fc.typing ∷ [] = fa.whole ∙ ap (λ (us : List Typing). fa.typing ∷ us) (fb.whole ∙ ap (λ (us : List Typing). fb.typing ∷ us) (fc.whole ∙ ap (λ (us : List Typing). fc.typing ∷ us) (sym (some_is [] fc.more fc.rest)))) in
     let w = then_value (value_in row a) (λ x. branch u x (value_in row b) (value_in row c)) v e in
     branch_fits u fa.typing fb.typing fc.typing t w.value (value_in row b) (value_in row c) v (subst (λ (us : List Typing). RowIs u us t) whole r) (h.0 fa.typing w.value fa.first w.first).0
-      (λ y k. h.1.0 fb.typing y fb.first k) (λ y k. h.1.1.0 fc.typing y fc.first k) w.rest
+    (λ y k. h.1.0 fb.typing y fb.first k) (λ y k. h.1.1.0 fc.typing y fc.first k) w.rest
 
 -- ---- calls
 

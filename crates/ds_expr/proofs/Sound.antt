@@ -1,6 +1,6 @@
 -- What is found for a node holds of it.
-use Rattle.std.proofs.Common.{rules, ◌≡◌, ◌≤◌, ◌<◌, ◌+◌, ◌^◌, ℕ, zero, suc, ℤ, pos, negsuc, List, [], ◌∷◌, ◌++◌, Bool, true, false, Option, Some, None, Result, Ok, drop, drop-cons, refl, sym, ap, subst, ◌∙◌, length, get_or, map, arith, slice_get}
-use Rattle.std.specs.Prelude.{nat_le, nat_lt, max, unsigned_abs, sum, ◌==◌, ◌&&◌, if◌then◌else◌}
+use Rattle.std.proofs.Common.{◌≡◌, ◌≤◌, ◌<◌, ◌+◌, ◌^◌, ℕ, zero, suc, ℤ, pos, List, [], ◌∷◌, ◌++◌, Bool, true, false, Option, Some, None, Result, Ok, drop, drop-cons, refl, sym, ap, subst, ◌∙◌, length, get_or, map, arith, slice_get}
+use Rattle.std.specs.Prelude.{nat_le, nat_lt, max, sum, ◌==◌, ◌&&◌, if◌then◌else◌}
 use Rattle.std.specs.List.{AllByRecursion}
 use Rattle.std.specs.Str.{bytes_eq}
 use Rattle.std.specs.Cmp.{first_so, second_so}
@@ -10,15 +10,13 @@ use Rattle.std.proofs.lemmas.Option.{slice_get_read}
 use Rattle.std.proofs.lemmas.Slice.Eq.{bytes_eq-Decides}
 use Rattle.ds_value.specs.declared.kind.Kind.{Kind}
 use Rattle.ds_value.specs.declared.kind.Kind.TheVariants as kind
-use Rattle.ds_value.specs.Kinds.{IsKind, fits_kind}
-use Rattle.ds_value.specs.declared.value.Value.TheVariants as value
+use Rattle.ds_value.specs.Kinds.{IsKind}
 use Rattle.ds_schema.specs.Schemas.{IsSchema, IsField}
 use Rattle.ds_schema.specs.declared.schema.Field.{Field}
-use Rattle.expr_table.specs.declared.entry.Shape.{Shape}
 use Rattle.expr_table.specs.declared.entry.FnName.{FnName}
 use Rattle.expr_table.specs.declared.entry.FnName.TheVariants as fn
 use Rattle.expr_table.specs.TableRows.{rows, row_with}
-use Rattle.expr_table.specs.Scales.{result_scale, greater_scale, scale_of_product, scale_of_wholes, scale_of_rounded}
+use Rattle.expr_table.specs.Scales.{result_scale, greater_scale, scale_of_wholes, scale_of_rounded}
 use Rattle.ds_expr.specs.declared.literal.Number.{Number}
 use Rattle.ds_expr.specs.declared.node.Typing.{Typing}
 use Rattle.ds_expr.specs.declared.node.Applied.{Applied}

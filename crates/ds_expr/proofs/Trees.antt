@@ -42,10 +42,10 @@ pub chain_answers : (fields : List Field) (e first read : Expr) (links more : Li
     → Answers {X = TypedNode} {Y = TypedNode} (λ y. y) r (typed_chain x (map (typed_link fields) more)) → Answers {X = TypedNode} {Y = TypedNode} (λ y. y) r (typed_of fields e)
 chain_answers fields e first read links more x r is got listed typed a =
     let same : typed_of fields e ≡ typed_chain x (map (typed_link fields) more) =
-      ap (typed_of fields) is
-      ∙ (typed_of_chain fields first links
-      ∙ (ap (λ (v : Result TypedNode ℕ). v >>= λ y. typed_chain y (map (typed_link fields) links)) (ap (typed_of fields) (sym got) ∙ typed)
-      ∙ ap (λ (ls : List (Link × Expr)). typed_chain x (map (typed_link fields) ls)) (sym listed))) in
+    ap (typed_of fields) is
+    ∙ (typed_of_chain fields first links
+    ∙ (ap (λ (v : Result TypedNode ℕ). v >>= λ y. typed_chain y (map (typed_link fields) links)) (ap (typed_of fields) (sym got) ∙ typed)
+    ∙ ap (λ (ls : List (Link × Expr)). typed_chain x (map (typed_link fields) ls)) (sym listed))) in
     subst (λ (v : Result TypedNode ℕ). Answers {X = TypedNode} {Y = TypedNode} (λ y. y) r v) (sym same) a
 
 pub call_valued : (row : List Value) (u : Applied) (args : List Node) → value_in row (made.Call u args) ≡ called u (map (value_in row) args)

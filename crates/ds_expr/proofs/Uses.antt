@@ -1,5 +1,5 @@
 -- The row that is applied.
-use Rattle.std.proofs.Common.{◌≡◌, ◌≤◌, ◌+◌, ℕ, zero, suc, List, [], ◌∷◌, Bool, true, false, Option, Some, None, refl, sym, ap, ◌∙◌, length, take, map, arith, slice_get, inl, inr}
+use Rattle.std.proofs.Common.{◌≡◌, ◌≤◌, ℕ, zero, suc, List, [], ◌∷◌, Bool, true, Option, Some, None, refl, sym, ap, ◌∙◌, length, arith, slice_get}
 use Rattle.std.specs.Prelude.{IsSomeAnd, nat_le, sum}
 use Rattle.std.specs.List.{list_all, AllByRecursion}
 use Rattle.std.specs.Cmp.{first_so, second_so}

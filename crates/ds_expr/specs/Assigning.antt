@@ -1,5 +1,5 @@
 -- What an assignment to a field gives.
-use Rattle.std.specs.Prelude.{◌≡◌, ◌≤◌, ◌<◌, ℕ, ◌+◌, ◌-◌, ◌*◌, ◌^◌, ℤ, pos, negsuc, ◌*ℤ◌, unsigned_abs, Bool, true, false, ◌==◌, nat_le, if◌then◌else◌, List, length, Result, Ok, Err}
+use Rattle.std.specs.Prelude.{◌≡◌, ℕ, ◌-◌, ◌^◌, ℤ, pos, negsuc, ◌*ℤ◌, Bool, true, false, ◌==◌, nat_le, if◌then◌else◌, List, length, Result, Ok, Err}
 use Rattle.ds_value.specs.declared.kind.Kind.{Kind}
 use Rattle.ds_value.specs.declared.kind.Kind.TheVariants as kind
 use Rattle.ds_value.specs.declared.value.Value.{Value}

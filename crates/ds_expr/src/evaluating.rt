@@ -113,12 +113,7 @@ fn call(
 
 /// The arguments' values from left to right.
 #[cycle(evaluation)]
-fn all(
-    alloc: Global,
-    fields: &[Field],
-    args: &[Node],
-    row: &Row,
-) -> Result<Items<Arg>, EvalFault>
+fn all(alloc: Global, fields: &[Field], args: &[Node], row: &Row) -> Result<Items<Arg>, EvalFault>
     requires typed { AllByRecursion (HasTyping fields.now) args.now }
     requires schema { IsSchema fields.now }
     requires row { row_fits fields.now row.now ≡ true }
@@ -128,7 +123,7 @@ fn all(
     for arg in args {
         let value = match node(alloc, fields, arg, row) {
             Ok(value) => value,
-            Err(fault) => return Err(fault),
+            Err(first) => return Err(first),
         };
         found = one_more(found, value)?;
     }

@@ -48,7 +48,11 @@ fn units_of(digits: &[u8]) -> Option<u128>
             units = units * 10 + u128::from(b.saturating_sub(b'0'));
         }
     }
-    if units < 10 * TENTH { Some(units) } else { None }
+    if units < 10 * TENTH {
+        Some(units)
+    } else {
+        None
+    }
 }
 
 /// The number that stands there, where it is one that an expression may have.

@@ -85,9 +85,15 @@ const TYPED: [(&str, Answer); 71] = [
     ("e + 1", Wrong(2)),
     ("text(d)", Is(Shape::Text, 0)),
     ("99999999999999999999999999999999999999", Is(Shape::Num, 0)),
-    ("0099999999999999999999999999999999999999", Is(Shape::Num, 0)),
+    (
+        "0099999999999999999999999999999999999999",
+        Is(Shape::Num, 0),
+    ),
     ("100000000000000000000000000000000000000", Wrong(0)),
-    ("0.00000000000000000000000000000000000000", Is(Shape::Num, 38)),
+    (
+        "0.00000000000000000000000000000000000000",
+        Is(Shape::Num, 38),
+    ),
     ("0.000000000000000000000000000000000000000", Wrong(0)),
     ("d * 0.0000000000000000000000000000000000000", Wrong(2)),
     ("", Syntax(0)),
@@ -148,9 +154,18 @@ const VALUED: [(&str, Plain); 60] = [
     ("1 == 1.00", B(true)),
     ("'b' > 'a'", B(true)),
     ("'' < 'a'", B(true)),
-    ("99999999999999999999999999999999999999 + 1 - 1", Fails(Overflow)),
-    ("99999999999999999999999999999999999999 * 2 / 4", Fails(Overflow)),
-    ("1.0 == 99999999999999999999999999999999999999", Fails(Overflow)),
+    (
+        "99999999999999999999999999999999999999 + 1 - 1",
+        Fails(Overflow),
+    ),
+    (
+        "99999999999999999999999999999999999999 * 2 / 4",
+        Fails(Overflow),
+    ),
+    (
+        "1.0 == 99999999999999999999999999999999999999",
+        Fails(Overflow),
+    ),
     ("round(d, 1)", N(123)),
     ("round(-0.5, 0)", N(-1)),
     ("concat(t, \"'c'\")", T(b"ab'c'")),
@@ -172,7 +187,7 @@ fn bytes(alloc: Global, text: &[u8]) -> Result<Bytes, Fail> {
     Ok(Bytes::from_vec(Vec::from_slice(alloc, text)?))
 }
 
-fn answer(alloc: Global, schema: &Schema, text: &[u8]) -> Result<Answer, Fail> {
+fn typed_as(alloc: Global, schema: &Schema, text: &[u8]) -> Result<Answer, Fail> {
     let expr = match parse(alloc, text) {
         Ok(expr) => expr,
         Err(ExprFault::Syntax { at }) => return Ok(Syntax(at)),
@@ -217,13 +232,18 @@ fn typing(rt: HostRuntime) -> Result<(), Fail> {
     let alloc = rt.alloc();
     let schema = read_schema(alloc, SCHEMA)?;
     for (text, wanted) in TYPED {
-        let found = answer(alloc, &schema, text.as_bytes())?;
+        let found = typed_as(alloc, &schema, text.as_bytes())?;
         assert!(rt; found == wanted, "{text}");
     }
     Ok(())
 }
 
-fn value(alloc: Global, schema: &Schema, row: &Row, text: &[u8]) -> Result<Result<Arg, EvalFault>, Fail> {
+fn value_of(
+    alloc: Global,
+    schema: &Schema,
+    row: &Row,
+    text: &[u8],
+) -> Result<Result<Arg, EvalFault>, Fail> {
     let Ok(expr) = parse(alloc, text) else {
         return Err(Fail::from("syntax"));
     };
@@ -245,13 +265,19 @@ fn values(rt: HostRuntime) -> Result<(), Fail> {
     let schema = read_schema(alloc, SCHEMA)?;
     let row = row(alloc)?;
     for (text, wanted) in VALUED {
-        let found = value(alloc, &schema, &row, text.as_bytes())?;
+        let found = value_of(alloc, &schema, &row, text.as_bytes())?;
         assert!(rt; is_plain(&found, wanted), "{text}");
     }
     Ok(())
 }
 
-fn repeated(alloc: Global, before: &[u8], count: usize, between: &[u8], behind: &[u8]) -> Result<Vec<u8>, Fail> {
+fn repeated(
+    alloc: Global,
+    before: &[u8],
+    count: usize,
+    between: &[u8],
+    behind: &[u8],
+) -> Result<Vec<u8>, Fail> {
     let mut text = Vec::new(alloc);
     for _round in 0..count {
         text.extend_from_slice(before)?;
@@ -279,8 +305,74 @@ fn depths(rt: HostRuntime) -> Result<(), Fail> {
     ];
     for (before, count, between, behind, wanted) in rows {
         let text = repeated(alloc, before, count, between, behind)?;
-        let found = answer(alloc, &schema, &text)?;
+        let found = typed_as(alloc, &schema, &text)?;
         assert!(rt; found == wanted, "{count}");
     }
+    Ok(())
+}
+
+fn field(alloc: Global, kind: Kind, nullable: bool) -> Result<Field, Fail>
+    ensures { IfOk result (λ f. f.kind ≡ kind) }
+{
+    let Some(name) = Name::from_bytes(alloc, b"x")? else {
+        return Err(Fail::from("name"));
+    };
+    Ok(Field {
+        name,
+        nullable,
+        kind,
+    })
+}
+
+fn is_value(found: &Result<Value, EvalFault>, wanted: &Result<Value, EvalFault>) -> bool {
+    match (found, wanted) {
+        (Ok(Value::Null), Ok(Value::Null)) => true,
+        (Ok(Value::Int(n)), Ok(Value::Int(m))) => *n == *m,
+        (Ok(Value::UInt(n)), Ok(Value::UInt(m))) => *n == *m,
+        (Ok(Value::Dec(n)), Ok(Value::Dec(m))) => *n == *m,
+        (Ok(Value::Text(text)), Ok(Value::Text(other))) => text.as_slice() == other.as_slice(),
+        (Err(fault), Err(other)) => *fault == *other,
+        _ => false,
+    }
+}
+
+#[test]
+fn assignments(rt: HostRuntime) -> Result<(), Fail> {
+    let alloc = rt.alloc();
+    let small = field(alloc, Kind::Int(8), false)?;
+    let found = assign(Arg::Num(-128), &small, 0);
+    assert!(rt; is_value(&found, &Ok(Value::Int(-128))));
+    let found = assign(Arg::Num(128), &small, 0);
+    assert!(rt; is_value(&found, &Err(Overflow)));
+    let found = assign(Arg::Null, &small, 0);
+    assert!(rt; is_value(&found, &Err(NullUsed)));
+    let large = field(alloc, Kind::UInt(64), true)?;
+    let found = assign(Arg::Num(-1), &large, 0);
+    assert!(rt; is_value(&found, &Err(Overflow)));
+    let found = assign(Arg::Null, &large, 0);
+    assert!(rt; is_value(&found, &Ok(Value::Null)));
+    let money = field(alloc, Kind::Dec { p: 4, s: 2 }, false)?;
+    let found = assign(Arg::Num(-999), &money, 1);
+    assert!(rt; is_value(&found, &Ok(Value::Dec(-9990))));
+    let found = assign(Arg::Num(1000), &money, 1);
+    assert!(rt; is_value(&found, &Err(Overflow)));
+    Ok(())
+}
+
+#[test]
+fn texts(rt: HostRuntime) -> Result<(), Fail> {
+    let alloc = rt.alloc();
+    let fixed = field(
+        alloc,
+        Kind::Text {
+            max: 4,
+            fixed: true,
+        },
+        false,
+    )?;
+    let found = assign(Arg::Text(bytes(alloc, b"ab")?), &fixed, 0);
+    assert!(rt; is_value(&found, &Ok(Value::Text(bytes(alloc, b"ab  ")?))));
+    let found = assign(Arg::Text(bytes(alloc, b"abcde")?), &fixed, 0);
+    assert!(rt; is_value(&found, &Err(TooLong)));
     Ok(())
 }

@@ -1,2 +1,6 @@
 pub mod Operands
 pub mod Loops
+pub mod Chains
+pub mod Units
+pub mod Grammars
+pub mod Wholes

@@ -3,6 +3,7 @@
 
 mod fault;
 mod halt;
+pub mod laws;
 mod operand;
 mod tree;
 mod what;

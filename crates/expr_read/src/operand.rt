@@ -38,10 +38,7 @@ fn link(cursor: &Cursor<'_>, level: Level) -> Option<Link>
     match cursor.rest() {
         [] => None,
         [token, ..] => match what_of(*token) {
-            What::Sign(sign) if joins(level, sign) => Some(Link {
-                at: token.at,
-                sign,
-            }),
+            What::Sign(sign) if joins(level, sign) => Some(Link { at: token.at, sign }),
             _ => None,
         },
     }
@@ -71,11 +68,7 @@ fn content(bytes: &[u8]) -> &[u8]
     }
 }
 
-fn chained(
-    alloc: Global,
-    first: Expr,
-    links: Items<(Link, Expr)>,
-) -> Result<Expr, AllocError>
+fn chained(alloc: Global, first: Expr, links: Items<(Link, Expr)>) -> Result<Expr, AllocError>
     ensures { IfOk result (λ e. e ≡ chained first links) }
 {
     if links.is_empty() {
@@ -135,12 +128,7 @@ fn closed(args: Items<Expr>, cursor: &mut Cursor<'_>) -> Result<Items<Expr>, Hal
 /// Operands of a level, with its signs between them.
 #[cycle(grammar)]
 #[tactic(auto, unfolding(crate::specs::Reading::chain_from))]
-pub fn chain(
-    alloc: Global,
-    depth: u8,
-    level: Level,
-    cursor: &mut Cursor<'_>,
-) -> Result<Expr, Halt>
+pub fn chain(alloc: Global, depth: u8, level: Level, cursor: &mut Cursor<'_>) -> Result<Expr, Halt>
     ensures { Moves result cursor.new (chain_at depth level cursor.old) }
 {
     let first = part(alloc, depth, level, cursor)?;
@@ -176,12 +164,7 @@ fn links(
 
 /// An operand of a level.
 #[cycle(grammar)]
-fn part(
-    alloc: Global,
-    depth: u8,
-    level: Level,
-    cursor: &mut Cursor<'_>,
-) -> Result<Expr, Halt>
+fn part(alloc: Global, depth: u8, level: Level, cursor: &mut Cursor<'_>) -> Result<Expr, Halt>
     ensures { Moves result cursor.new (part_at depth level cursor.old) }
 {
     match level {
@@ -261,12 +244,7 @@ fn bracket(alloc: Global, depth: u8, cursor: &mut Cursor<'_>) -> Result<Expr, Ha
 /// A column, or a call where a bracket comes.
 #[cycle(grammar)]
 #[tactic(auto, unfolding(crate::specs::Reading::named_from))]
-fn named(
-    alloc: Global,
-    depth: u8,
-    name: Lexeme<'_>,
-    cursor: &mut Cursor<'_>,
-) -> Result<Expr, Halt>
+fn named(alloc: Global, depth: u8, name: Lexeme<'_>, cursor: &mut Cursor<'_>) -> Result<Expr, Halt>
     ensures { Moves result cursor.new (named_from (inner_at depth) (lexeme name.entry) cursor.old) }
 {
     let at = name.at;

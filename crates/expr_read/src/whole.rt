@@ -1,6 +1,7 @@
 //! Whole texts.
 
-ghost use Rattle.std.specs.Prelude.{◌≡◌};
+ghost use Rattle.std.specs.Prelude.{◌≡◌, IfOk, IfErr};
+ghost use Rattle.expr_read.specs.Grammar.{IsSpelled, SpellsNone};
 ghost use Rattle.expr_read.specs.Reading.{Answers, Ends, end_place, expr_of, whole_at};
 
 use crate::fault::ExprFault;
@@ -35,7 +36,7 @@ fn whole(alloc: Global, depth: u8, cursor: &mut Cursor<'_>) -> Result<Expr, Halt
 }
 
 #[tactic(auto, unfolding(crate::specs::Reading::expr_of))]
-pub fn parse(alloc: Global, text: &[u8]) -> Result<Expr, ExprFault>
+fn read(alloc: Global, text: &[u8]) -> Result<Expr, ExprFault>
     ensures { Answers result (expr_of text.now) }
 {
     let LexedText { lexemes, bad } = lex(alloc, Mode::Inner, text)?;
@@ -50,4 +51,13 @@ pub fn parse(alloc: Global, text: &[u8]) -> Result<Expr, ExprFault>
         }),
         Err(Halt::Memory) => Err(ExprFault::Memory),
     }
+}
+
+/// The expression that the text spells, all of it, or the first place from which none goes on.
+pub fn parse(alloc: Global, text: &[u8]) -> Result<Expr, ExprFault>
+    ensures answers { Answers result (expr_of text.now) }
+    ensures spelled { IfOk result (λ e. IsSpelled text.now e) }
+    ensures none { IfErr result (λ fault. SpellsNone fault text.now) }
+{
+    read(alloc, text)
 }

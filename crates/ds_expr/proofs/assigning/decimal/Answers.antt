@@ -1,4 +1,4 @@
-use Rattle.std.proofs.Common.{rules, ◌≡◌, ◌^◌, ◌≤◌, pos, arith, FitsSigned}
+use Rattle.std.proofs.Common.{rules, ◌^◌, ◌≤◌, pos, arith, FitsSigned}
 use Rattle.std.specs.Int.{w128}
 use Rattle.std.proofs.Math.Nat.{pow-le-pow_right}
 use Rattle.std.proofs.lemmas.Int.{fits_signed_from_abs, to_z-of_z}

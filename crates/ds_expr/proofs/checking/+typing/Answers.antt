@@ -1,4 +1,4 @@
-use Rattle.std.proofs.Common.{◌≡◌, sym, ◌∙◌}
+use Rattle.std.proofs.Common.{sym, ◌∙◌}
 use Rattle.ds_expr.proofs.Sound.{args_sound, args_step}
 use Rattle.ds_expr.proofs.Trees.{chain_answers}
 use Rattle.ds_expr.proofs.checking.+typing.Goals as goal

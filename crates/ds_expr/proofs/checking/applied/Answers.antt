@@ -1,4 +1,4 @@
-use Rattle.std.proofs.Common.{◌≡◌, sym, ◌∙◌, ap}
+use Rattle.std.proofs.Common.{sym, ◌∙◌, ap}
 use Rattle.ds_expr.specs.Typing.{use_of}
 use Rattle.ds_expr.proofs.Sound.{call_sound}
 use Rattle.ds_expr.proofs.checking.applied.Goals as goal

@@ -1,4 +1,3 @@
-use Rattle.std.proofs.Common.{◌≡◌}
 use Rattle.ds_expr.proofs.Sound.{column_read}
 use Rattle.ds_expr.proofs.checking.column.Goals as goal
 

@@ -1,4 +1,4 @@
-use Rattle.std.proofs.Common.{rules, ◌≡◌, sym, ◌∙◌, FitsSigned, w32}
+use Rattle.std.proofs.Common.{rules, sym, ◌∙◌, FitsSigned, w32}
 use Rattle.std.proofs.lemmas.Int.{to_z-of_z}
 use Rattle.ds_expr.proofs.Sound.{date_sound}
 use Rattle.ds_expr.proofs.checking.date.Goals as goal

@@ -1,4 +1,4 @@
-use Rattle.std.proofs.Common.{◌≡◌, sym, ◌∙◌, ap}
+use Rattle.std.proofs.Common.{sym, ◌∙◌}
 use Rattle.ds_expr.proofs.Sound.{join_sound}
 use Rattle.ds_expr.proofs.checking.join.Goals as goal
 

@@ -1,6 +1,3 @@
-use Rattle.std.proofs.Common.{◌≡◌, subst, sym}
-use Rattle.ds_expr.specs.declared.node.TypedNode.{TypedNode}
-use Rattle.ds_expr.specs.Typing.{IsSound}
 use Rattle.ds_expr.proofs.Sound.{number_sound}
 use Rattle.ds_expr.proofs.checking.number.Goals as goal
 

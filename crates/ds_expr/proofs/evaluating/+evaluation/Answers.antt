@@ -1,8 +1,8 @@
-use Rattle.std.proofs.Common.{rules, ◌≡◌, ◌≢◌, sym, ◌∙◌, ap}
+use Rattle.std.proofs.Common.{rules}
 use Rattle.std.proofs.Common.{arith}
 use Rattle.std.proofs.lemmas.Grind.{common_steps}
 use Rattle.ds_expr.specs.declared.node.Node.{the_lemmas}
-use Rattle.ds_expr.proofs.Evals.{args_row, args_typed, args_in_range, value_in_range, joins_first, chain_joins, next_operand, next_joins, ok_known, all_known, join_next, join_fault}
+use Rattle.ds_expr.proofs.Evals.{args_row, args_typed, args_in_range, value_in_range, chain_joins, next_operand, next_joins, ok_known, all_known, join_next, join_fault}
 use Rattle.ds_expr.proofs.evaluating.+evaluation.Goals as goal
 
 pub call-choose-requires : goal.call-choose-requires

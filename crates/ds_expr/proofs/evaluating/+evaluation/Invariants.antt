@@ -9,5 +9,5 @@ invariant-all-loop-arg l = values l.found (map (value_in l.row) (drop l.arg-inde
 abbrev pub invariant-join_all-loop-used : goal.invariant-join_all-loop-used
 invariant-join_all-loop-used l = record {
   rest : all_joined l.left (map (valued_link l.row) (drop l.used-index l.links)) ≡ all_joined l.fn.first (map (valued_link l.row) l.links);
-  typed : JoinsFrom l.fields (drop l.used-index l.links) l.left
+  typed : JoinsFrom l.fields (drop l.used-index l.links) l.left;
 }

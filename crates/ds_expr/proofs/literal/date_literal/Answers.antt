@@ -1,4 +1,4 @@
-use Rattle.std.proofs.Common.{◌≡◌, ◌∙◌, Err, ap}
+use Rattle.std.proofs.Common.{◌∙◌, Err, ap}
 use Rattle.ds_expr.proofs.Dates.{spelled_day, no_day}
 use Rattle.ds_expr.proofs.literal.date_literal.Goals as goal
 

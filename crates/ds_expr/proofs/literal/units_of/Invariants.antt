@@ -8,5 +8,5 @@ use Rattle.ds_expr.proofs.literal.units_of.Given as goal
 abbrev pub invariant-loop-b : goal.invariant-loop-b
 invariant-loop-b l = record {
   bound : l.units < 10 ^ 38 + 10 ^ 4;
-  rest : number_behind l.units (filter (λ b. not (b == 46)) (drop l.b-index l.digits)) ≡ units_of l.digits
+  rest : number_behind l.units (filter (λ b. not (b == 46)) (drop l.b-index l.digits)) ≡ units_of l.digits;
 }

@@ -1,4 +1,4 @@
-use Rattle.std.proofs.Common.{◌≡◌, ◌∙◌}
+use Rattle.std.proofs.Common.{◌∙◌}
 use Rattle.ds_expr.proofs.Uses.{past_rows}
 use Rattle.ds_expr.proofs.typing.result_at.Goals as goal
 

@@ -1,4 +1,4 @@
-use Rattle.std.proofs.Common.{◌≡◌, ◌∙◌}
+use Rattle.std.proofs.Common.{◌∙◌}
 use Rattle.ds_expr.proofs.Uses.{no_row, one_row, scales_sum}
 use Rattle.ds_expr.proofs.typing.use_of.Goals as goal
 
@@ -12,4 +12,4 @@ result_scale-requires c =
 pub returns : goal.returns
 returns c =
     one_row _ _ _ _ _ _ _ _ _ _ c.table.ensures.value (c.deref.ensures.value ∙ c.in_ok-shapes.ensures) c.in-Some.ensures.number (c.deref-2.ensures.value ∙ c.in_ok-scales.ensures) c.second_literal.ensures
-      c.in-Some-result_scale.ensures c.result_at.ensures (c.from_vec.ensures ∙ c.in_ok-scales.ensures)
+    c.in-Some-result_scale.ensures c.result_at.ensures (c.from_vec.ensures ∙ c.in_ok-scales.ensures)

@@ -1,4 +1,4 @@
-use Rattle.std.proofs.Common.{◌≡◌, ◌≢◌, ℕ, ◌+◌, ◌-◌, sym, ◌∙◌, arith, length}
+use Rattle.std.proofs.Common.{◌≡◌, ◌≢◌, ◌+◌, ◌-◌, sym, ◌∙◌, arith}
 use Rattle.expr_read.proofs.Loops.{links_none, links_last, links_next, links_halt, args_none, args_next, args_last, args_halt}
 use Rattle.expr_read.proofs.operand.+grammar.Goals as goal
 
