@@ -21,3 +21,4 @@ pub use transforming::Transform;
 
 #[cfg(test)]
 mod tests;
+
