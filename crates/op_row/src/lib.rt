@@ -21,4 +21,3 @@ pub use transforming::Transform;
 
 #[cfg(test)]
 mod tests;
-

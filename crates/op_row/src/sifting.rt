@@ -47,12 +47,7 @@ fn judge(alloc: Global, test: &Typed, row: &Row) -> Result<Verdict, NoMemory>
 }
 
 /// Sends a row where its verdict says.
-fn send_judged(
-    verdict: Verdict,
-    reject: bool,
-    row: Row,
-    emit: &mut Emit,
-) -> Result<(), NoMemory>
+fn send_judged(verdict: Verdict, reject: bool, row: Row, emit: &mut Emit) -> Result<(), NoMemory>
     ensures { OnOk result (Adds emit.old emit.new (made (filter_rule (λ r. judged_as verdict) reject) (with_rejects 1 reject) row)) }
 {
     match verdict {

@@ -26,8 +26,8 @@ returns-clause-emits c = λ feeds stands.
     let P : List (Out Row Fault) → Type 0 = λ outs. Adds c.args.emit.now c.send_placed.new.emit outs in
     subst P
     (
-      ap (λ cases. made (switch_rule (length cases) (λ r. said) c.args.self.now.reject) (with_rejects (length cases) c.args.self.now.reject) c.args.row) c.as_slice-cases.ensures.value
-      ∙ switch_once (length items) (case_of c.args.self.now.on items) c.args.self.now.reject (with_rejects (length items) c.args.self.now.reject) c.args.row said
-      (c.in_ok-place.ensures.case ∙ ap (λ cases. case_of c.args.self.now.on cases c.args.row) c.as_slice-cases.ensures.value)
+    ap (λ cases. made (switch_rule (length cases) (λ r. said) c.args.self.now.reject) (with_rejects (length cases) c.args.self.now.reject) c.args.row) c.as_slice-cases.ensures.value
+    ∙ switch_once (length items) (case_of c.args.self.now.on items) c.args.self.now.reject (with_rejects (length items) c.args.self.now.reject) c.args.row said
+    (c.in_ok-place.ensures.case ∙ ap (λ cases. case_of c.args.self.now.on cases c.args.row) c.as_slice-cases.ensures.value)
     )
     c.in_ok-send_placed.ensures
