@@ -114,7 +114,7 @@ links_none_at (suc k) l R found ts rest h n =
     ap (λ (o : Option Link). behind_link o (let r : Read (List (Link × Expr)) = Ok (found, ts) in r) (λ link. R (behind ts) >>= λ x. links_at k l R (found ++ (link, x.0) ∷ []) x.1)) (no_link_at l ts (ap (goes (is_link l)) h ∙ n))
     ∙ (ap (λ (us : List Lexeme). Ok (found, us)) h ∙ ap (λ (ls : List (Link × Expr)). Ok (ls, rest)) (sym (append-nil found)))
 
-links_once : (k : ℕ) (l : Level) (R : Reader) (found : List (Link × Expr)) (t : Lexeme) (ts us : List Lexeme) (link : Link) (e : Expr) → link_by l t.at (what_of t) ≡ Some link → R ts ≡ Ok (e, us) → links_at (suc k) l R found (t ∷ ts) ≡ links_at k l R (found ++ (link, e) ∷ []) us
+pub links_once : (k : ℕ) (l : Level) (R : Reader) (found : List (Link × Expr)) (t : Lexeme) (ts us : List Lexeme) (link : Link) (e : Expr) → link_by l t.at (what_of t) ≡ Some link → R ts ≡ Ok (e, us) → links_at (suc k) l R found (t ∷ ts) ≡ links_at k l R (found ++ (link, e) ∷ []) us
 unfolding links_at
 links_once k l R found t ts us link e g o =
     ap (λ (m : Option Link). behind_link m (let r : Read (List (Link × Expr)) = Ok (found, t ∷ ts) in r) (λ n. R ts >>= λ x. links_at k l R (found ++ (n, x.0) ∷ []) x.1)) g
@@ -133,7 +133,7 @@ links_all l F go R r apart (suc k) found (x ∷ xs) (t ∷ ts) rest n h g n' =
 
 -- ---- a level
 
-may_stand : (l : Level) (n : ℕ) (links : List (Link × Expr)) → length links ≤ most_links l n → MayStand l links
+pub may_stand : (l : Level) (n : ℕ) (links : List (Link × Expr)) → length links ≤ most_links l n → MayStand l links
 may_stand level.Compare n links h = h
 may_stand level.Or n links h = tt
 may_stand level.And n links h = tt

@@ -18,35 +18,35 @@ use Rattle.expr_read.proofs.Units.{Ends, InnerReads, opens_token, unary_reads, c
 
 -- ---- which tokens go on with a level
 
-abbrev go_product : Lexeme → Bool
+abbrev pub go_product : Lexeme → Bool
 go_product t = goes_on opens_token level.Product t
 
-abbrev go_sum : Lexeme → Bool
+abbrev pub go_sum : Lexeme → Bool
 go_sum t = goes_on go_product level.Sum t
 
-abbrev go_comparison : Lexeme → Bool
+abbrev pub go_comparison : Lexeme → Bool
 go_comparison t = goes_on go_sum level.Compare t
 
-abbrev go_and : Lexeme → Bool
+abbrev pub go_and : Lexeme → Bool
 go_and t = goes_on go_comparison level.And t
 
 abbrev pub go_or : Lexeme → Bool
 go_or t = goes_on go_and level.Or t
 
 -- what the sign of a level goes on with, by what the token is
-abbrev links : Level → ℕ → What → Bool
+abbrev pub links : Level → ℕ → What → Bool
 links l at w = is_some_link (link_by l at w)
 
-apart_product : (at : ℕ) (w : What) → links level.Product at w ≡ true → opens w ≡ false
+pub apart_product : (at : ℕ) (w : What) → links level.Product at w ≡ true → opens w ≡ false
 apart_product at (what.Sign s) h = refl
 apart_product at w h = absurd cc
 
-apart_sum : (at : ℕ) (w : What) → links level.Sum at w ≡ true → (opens w || links level.Product at w) ≡ false
+pub apart_sum : (at : ℕ) (w : What) → links level.Sum at w ≡ true → (opens w || links level.Product at w) ≡ false
 apart_sum at (what.Sign sign.Plus) h = refl
 apart_sum at (what.Sign sign.Minus) h = refl
 apart_sum at w h = absurd cc
 
-apart_comparison : (at : ℕ) (w : What) → links level.Compare at w ≡ true → ((opens w || links level.Product at w) || links level.Sum at w) ≡ false
+pub apart_comparison : (at : ℕ) (w : What) → links level.Compare at w ≡ true → ((opens w || links level.Product at w) || links level.Sum at w) ≡ false
 apart_comparison at (what.Sign sign.Equal) h = refl
 apart_comparison at (what.Sign sign.NotEqual) h = refl
 apart_comparison at (what.Sign sign.Less) h = refl
@@ -55,11 +55,11 @@ apart_comparison at (what.Sign sign.Greater) h = refl
 apart_comparison at (what.Sign sign.GreaterEqual) h = refl
 apart_comparison at w h = absurd cc
 
-apart_and : (at : ℕ) (w : What) → links level.And at w ≡ true → (((opens w || links level.Product at w) || links level.Sum at w) || links level.Compare at w) ≡ false
+pub apart_and : (at : ℕ) (w : What) → links level.And at w ≡ true → (((opens w || links level.Product at w) || links level.Sum at w) || links level.Compare at w) ≡ false
 apart_and at (what.Sign sign.And) h = refl
 apart_and at w h = absurd cc
 
-apart_or : (at : ℕ) (w : What) → links level.Or at w ≡ true → ((((opens w || links level.Product at w) || links level.Sum at w) || links level.Compare at w) || links level.And at w) ≡ false
+pub apart_or : (at : ℕ) (w : What) → links level.Or at w ≡ true → ((((opens w || links level.Product at w) || links level.Sum at w) || links level.Compare at w) || links level.And at w) ≡ false
 apart_or at (what.Sign sign.Or) h = refl
 apart_or at w h = absurd cc
 
@@ -73,7 +73,7 @@ or_reads F R r =
     let conjunction = chain_reads level.And _ go_comparison (comparison_at R) (λ t. apart_and t.at (what_of t)) comparison in
     chain_reads level.Or _ go_and (and_at R) (λ t. apart_or t.at (what_of t)) conjunction
 
-ends_go : Ends go_or
+pub ends_go : Ends go_or
 ends_go = record {
   close = λ t h. rw h refl;
   comma = λ t h. rw h refl;

@@ -4,3 +4,8 @@ pub mod Chains
 pub mod Units
 pub mod Grammars
 pub mod Wholes
+pub mod Steps
+pub mod CallSteps
+pub mod UnarySteps
+pub mod Firsts
+pub mod OneAnswer

@@ -18,27 +18,27 @@ use Rattle.expr_read.proofs.Chains.{goes, Reads, parts, made_of}
 
 -- ---- brackets and commas
 
-is_close : (w : What) → closes w ≡ true → w ≡ what.Close
+pub is_close : (w : What) → closes w ≡ true → w ≡ what.Close
 is_close what.Close h = refl
 is_close w h = absurd cc
 
-is_open : (w : What) → opens w ≡ true → w ≡ what.Open
+pub is_open : (w : What) → opens w ≡ true → w ≡ what.Open
 is_open what.Open h = refl
 is_open w h = absurd cc
 
-is_a_comma : (w : What) → is_comma w ≡ true → w ≡ what.Comma
+pub is_a_comma : (w : What) → is_comma w ≡ true → w ≡ what.Comma
 is_a_comma what.Comma h = refl
 is_a_comma w h = absurd cc
 
-mark_at : (is : What → Bool) (w : What) → ((v : What) → is v ≡ true → v ≡ w) → is what.Other ≡ false → (ts : List Lexeme) → is (next_what ts) ≡ true → mark w ts (behind ts)
+pub mark_at : (is : What → Bool) (w : What) → ((v : What) → is v ≡ true → v ≡ w) → is what.Other ≡ false → (ts : List Lexeme) → is (next_what ts) ≡ true → mark w ts (behind ts)
 mark_at is w known other [] h = absurd cc
 mark_at is w known other (t ∷ ts) h = (known (what_of t) h, refl)
 
-mark_next : (w : What) (ts rest : List Lexeme) → mark w ts rest → (next_what ts ≡ w) × (behind ts ≡ rest)
+pub mark_next : (w : What) (ts rest : List Lexeme) → mark w ts rest → (next_what ts ≡ w) × (behind ts ≡ rest)
 mark_next w [] rest h = absurd h
 mark_next w (t ∷ ts) rest h = h
 
-mark_fewer : (w : What) (ts rest : List Lexeme) → mark w ts rest → length ts ≡ length rest + 1
+pub mark_fewer : (w : What) (ts rest : List Lexeme) → mark w ts rest → length ts ≡ length rest + 1
 mark_fewer w [] rest h = absurd h
 mark_fewer w (t ∷ ts) rest h = omega (arith, ap length h.1)
 

@@ -1,6 +1,7 @@
 //! Whole texts.
 
 ghost use Rattle.std.specs.Prelude.{◌≡◌, IfOk, IfErr};
+ghost use Rattle.expr_read.specs.First.{Refuses};
 ghost use Rattle.expr_read.specs.Grammar.{IsSpelled, SpellsNone};
 ghost use Rattle.expr_read.specs.Reading.{Answers, Ends, end_place, expr_of, whole_at};
 
@@ -57,6 +58,7 @@ fn read(alloc: Global, text: &[u8]) -> Result<Expr, ExprFault>
 pub fn parse(alloc: Global, text: &[u8]) -> Result<Expr, ExprFault>
     ensures answers { Answers result (expr_of text.now) }
     ensures spelled { IfOk result (λ e. IsSpelled text.now e) }
+    ensures first_fault { IfErr result (λ fault. Refuses fault text.now) }
     ensures none { IfErr result (λ fault. SpellsNone fault text.now) }
 {
     read(alloc, text)

@@ -51,9 +51,14 @@ beyond op bytes = faults_behind op (lines_of bytes).too_long
 abbrev pub AllFit : List Field → List Row → Type 0
 AllFit fields rows = AllByRecursion (λ row. row_fits fields row ≡ true) rows
 
--- an import read a file: the rows are those of its good lines, in order, and the faults were tallied
-pub record Imports (form : Form) (fields : List Field) (op : ℕ) (bytes : List ℕ) (rows : List Row) (old new : Tally) : Type 0 where
+-- rows of bad lines
+abbrev pub AreOfLines : List Row → Type 0
+AreOfLines rows = AllByRecursion (λ row. (line : List ℕ) × (row ≡ line_row line)) rows
+
+-- an import read a file: the rows are those of its good lines, those that were rejected of its bad lines, each in order, and the faults were tallied
+pub record Imports (form : Form) (fields : List Field) (op : ℕ) (rejects : Bool) (bytes : List ℕ) (rows rejected : List Row) (old new : Tally) : Type 0 where
   pub lines : List Line
   pub are : AreLines form fields op bytes lines
-  pub rows_are : rows ≡ flat_map (line_rows 0 false) lines
-  pub faults : Grows old new (flat_map (line_faults false) lines ++ beyond op bytes)
+  pub rows_are : rows ≡ flat_map (line_rows 0 rejects) lines
+  pub rejected_are : rejected ≡ flat_map (line_rows 1 rejects) lines
+  pub faults : Grows old new (flat_map (line_faults rejects) lines ++ beyond op bytes)

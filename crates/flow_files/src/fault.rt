@@ -2,12 +2,12 @@ ghost use Rattle.std.specs.Prelude.{◌≡◌, ◌++◌, true, All, IfOk, OnOk, 
 ghost use Rattle.std.specs.List.{AllByRecursion, flat_map};
 ghost use Rattle.ds_value.specs.Canonical.{canonical_bytes, IsShort};
 ghost use Rattle.ds_schema.specs.Schemas.{IsField, row_fits};
-ghost use Rattle.flow_files.specs.Lines.{bad_record, file_too_long};
+ghost use Rattle.flow_files.specs.Lines.{bad_record, file_too_long, line_row};
 ghost use Rattle.flow_files.specs.Texts.{unwritable};
 
 use ds_port::DeviceFault;
 use ds_schema::{Field, Row};
-use ds_value::{Bytes, NoMemory, canonical};
+use ds_value::{Bytes, NoMemory, Value, canonical};
 use op_base::{Fault, FaultKind};
 use std::alloc::Global;
 
@@ -54,6 +54,19 @@ pub fn bad_record(alloc: Global, op: u32, number: u64, line: &[u8]) -> Result<Fa
         place: number,
         bytes,
     })
+}
+
+/// The bytes that the row of a bad line keeps.
+const KEPT_IN_ROW: usize = 65_536;
+
+/// The row of a line that spells no row.
+#[tactic(auto, using(std::proofs::lemmas::List::take_min))]
+pub fn line_row(alloc: Global, line: &[u8]) -> Result<Row, NoMemory>
+    ensures { IfOk result (λ row. row ≡ line_row line.now) }
+{
+    let mut bytes = Bytes::new(alloc);
+    bytes.append(&line[..KEPT_IN_ROW.min(line.len())])?;
+    Ok(Row::from_vec(vec![in alloc; Value::Text(bytes)]?))
 }
 
 /// The fault of a file that is too long.

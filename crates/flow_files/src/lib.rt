@@ -9,8 +9,10 @@ mod tally;
 
 pub use export::export_rows;
 pub use fault::FileFault;
-pub use import::import_rows;
+pub use import::{Imported, import_rows};
 pub use tally::Tally;
 
+#[cfg(test)]
+mod kind_tests;
 #[cfg(test)]
 mod tests;

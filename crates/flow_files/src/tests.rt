@@ -95,13 +95,21 @@ fn carry<P: Failures, Q: Failures>(
     requires columns { FormFits ways.now.schema ways.now.columns }
 {
     let mut tally = Tally::new();
-    let (_source, rows) = import_rows(alloc, 4, &ways.schema, &ways.commas, source, &mut tally);
+    let (_source, made) = import_rows(
+        alloc,
+        4,
+        false,
+        &ways.schema,
+        &ways.commas,
+        source,
+        &mut tally,
+    );
     export_rows(
         alloc,
         9,
         &ways.schema,
         &ways.columns,
-        &rows?,
+        made?.rows.as_slice(),
         sink,
         &mut tally,
     )?;

@@ -1,15 +1,2 @@
-pub mod Four
-pub mod Quotes
-pub mod Endings
-pub mod Cuts
-pub mod SchemaQuotes
-pub mod Flows
-pub mod Underway
-pub mod FewLines
-pub mod FaultOrder
-pub mod OneEnd
-pub mod Rows
-pub mod Stops
-pub mod Least
-pub mod Outcomes
-pub mod Exact
+pub mod Ending
+pub mod Obeying

@@ -1,71 +1,52 @@
 //! All of a call but its line on err.
 
-ghost use Rattle.std.specs.Prelude.{◌≡◌, ◌⊎◌, map, string_bytes, IsTrue, IfOk, IfErr};
-ghost use Rattle.ds_port.specs.Causes.{HasCause, Rose};
-ghost use Rattle.osh.specs.Serves.{Serves};
-ghost use Rattle.osh.specs.Stages.{IsReady, Stops, Ran};
+ghost use Rattle.std.specs.Prelude.{◌≡◌, ◌⊎◌, map, string_bytes, IsTrue};
+ghost use Rattle.ds_port.specs.Causes.{Rose};
+ghost use Rattle.osh_ends.specs.Ends.{Commands, ComesTo};
+ghost use Rattle.osh_call.specs.Answers.{Serves};
 
-use crate::answer::Answer;
-use crate::flow::Path;
-use crate::run::{carry, deliver, open, refuse};
-use crate::stages::{config_at, flow_at};
-use crate::words::read_words;
 use ds_port::{Files, Sink};
+use osh_call::{Answer, check};
+use osh_run::run;
+use osh_words::{Command, WordFault, read_words};
 use std::alloc::Global;
 
-/// What the flow says that the words name, where its configuration is good too.
-fn prepare<F: Files>(alloc: Global, words: &[String], files: &mut F) -> Result<Path, Answer>
-    ensures ready { IsTrue F.tells → IfOk result (IsReady (map string_bytes words.now) (F.holds files.old)) }
-    ensures stopped { IsTrue F.tells → IfErr result (Stops (map string_bytes words.now) (F.holds files.old)) }
-    ensures same { F.holds files.new ≡ F.holds files.old }
-    ensures cause { HasCause (F.faults files.old) (F.faults files.new) (result ≡ Err Answer.Device) }
-{
-    let command = match read_words(alloc, words) {
-        Ok(Some(command)) => command,
-        Ok(None) => return Err(Answer::Unbuilt),
-        Err(_) => return Err(Answer::Memory),
-    };
-    let path = match flow_at(alloc, files, &command.flow) {
-        Ok(path) => path,
-        Err(answer) => return Err(answer),
-    };
-    match config_at(alloc, files, &command.config) {
-        Ok(()) => Ok(path),
-        Err(answer) => Err(answer),
-    }
-}
-
-/// Runs a flow.
-fn run<F: Files, O: Sink>(alloc: Global, files: &mut F, out: &mut O, path: &Path) -> Answer
-    ensures ran { IsTrue F.tells → Ran path.now (F.holds files.old) (F.holds files.new) O.tells (O.held out.old) (O.held out.new) result }
+/// Does what a command says.
+fn obey<F: Files, O: Sink>(alloc: Global, files: &mut F, out: &mut O, command: &Command) -> Answer
+    ensures serves { IsTrue F.tells → Serves (Commands (F.holds files.old) command.now) (F.holds files.old) (F.holds files.new) O.tells (O.held out.old) (O.held out.new) (Rose (F.faults files.old) (F.faults files.new)) (Rose (O.faults out.old) (O.faults out.new)) result }
     ensures device { result ≡ Answer.Device → Rose (F.faults files.old) (F.faults files.new) ⊎ Rose (O.faults out.old) (O.faults out.new) }
 {
-    let (input, output) = match open(alloc, files, path) {
-        Ok(ends) => ends,
-        Err(answer) => return answer,
-    };
-    let (tally, output) = match carry(alloc, files, path, input, output) {
-        Ok(done) => done,
-        Err(answer) => return answer,
-    };
-    match &tally.least {
-        None => deliver(alloc, files, out, tally.rows, output),
-        Some(least) => refuse(alloc, files, out, tally.faults, least, output),
+    match command {
+        Command::Check(flow) => check(alloc, files, out, flow),
+        Command::Run {
+            serial,
+            flow,
+            config,
+            ..
+        } => {
+            if *serial {
+                run(alloc, files, out, flow, config)
+            } else {
+                Answer::Unbuilt
+            }
+        }
+        Command::Score(..) | Command::Meaning(_) | Command::Gen { .. } => Answer::Unbuilt,
     }
 }
 
-/// All of a call but its line on err.
+/// Does what the words say.
 pub fn serve<F: Files, O: Sink>(
     alloc: Global,
     words: &[String],
     files: &mut F,
     out: &mut O,
 ) -> Answer
-    ensures serves { IsTrue F.tells → Serves (map string_bytes words.now) (F.holds files.old) (F.holds files.new) O.tells (O.held out.old) (O.held out.new) result }
+    ensures serves { IsTrue F.tells → Serves (ComesTo (map string_bytes words.now) (F.holds files.old)) (F.holds files.old) (F.holds files.new) O.tells (O.held out.old) (O.held out.new) (Rose (F.faults files.old) (F.faults files.new)) (Rose (O.faults out.old) (O.faults out.new)) result }
     ensures device { result ≡ Answer.Device → Rose (F.faults files.old) (F.faults files.new) ⊎ Rose (O.faults out.old) (O.faults out.new) }
 {
-    match prepare(alloc, words, files) {
-        Ok(path) => run(alloc, files, out, &path),
-        Err(answer) => answer,
+    match read_words(alloc, words) {
+        Ok(command) => obey(alloc, files, out, &command),
+        Err(WordFault::Usage) => Answer::Usage,
+        Err(WordFault::Memory) => Answer::Memory,
     }
 }

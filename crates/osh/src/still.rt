@@ -1,11 +1,13 @@
+//! A whole call of the program.
+
 ghost use Rattle.std.specs.Prelude.{◌≡◌, ◌⊎◌, map, string_bytes, IsTrue};
 ghost use Rattle.ds_port.specs.Causes.{Rose};
-ghost use Rattle.osh.specs.Ends.{OneEnd};
-ghost use Rattle.osh.specs.Serves.{Runs, IsExact, IsComplete};
+ghost use Rattle.osh_ends.specs.Leaves.{IsExact, IsComplete};
+ghost use Rattle.osh.specs.Calls.{Calls, IsStatus};
 
-use crate::say::{say, status};
 use crate::serve::serve;
 use ds_port::{Files, Sink};
+use osh_call::{say, status};
 use std::alloc::Global;
 
 /// What the program ends with.
@@ -20,22 +22,17 @@ pub fn osh_still<F: Files, O: Sink, E: Sink>(
     out: &mut O,
     err: &mut E,
 ) -> Status
-    ensures runs { IsTrue F.tells → Runs (map string_bytes words.now) (F.holds files.old) (F.holds files.new) O.tells (O.held out.old) (O.held out.new)
+    ensures calls { IsTrue F.tells → Calls (map string_bytes words.now) (F.holds files.old) (F.holds files.new) O.tells (O.held out.old) (O.held out.new) (Rose (F.faults files.old) (F.faults files.new)) (Rose (O.faults out.old) (O.faults out.new))
         E.tells (E.faults err.old) (E.faults err.new) (E.held err.old) (E.held err.new) result.0 }
     ensures exact { IsTrue F.tells → IsExact (map string_bytes words.now) (F.holds files.old) result.0 }
+    ensures complete { IsTrue F.tells → IsComplete (map string_bytes words.now) (F.holds files.old) (Rose (F.faults files.old) (F.faults files.new) ⊎ Rose (O.faults out.old) (O.faults out.new)) result.0 }
 
     // These hold of files that tell nothing too.
-    ensures statuses { (result.0 ≡ 0) ⊎ ((result.0 ≡ 7) ⊎ ((result.0 ≡ 8) ⊎ ((result.0 ≡ 9) ⊎ ((result.0 ≡ 10) ⊎ (result.0 ≡ 12))))) }
+    ensures statuses { IsStatus result.0 }
     ensures device { result.0 ≡ 10 → Rose (F.faults files.old) (F.faults files.new) ⊎ Rose (O.faults out.old) (O.faults out.new) }
-
-    ensures complete { IsTrue F.tells → IsComplete (map string_bytes words.now) (F.holds files.old) (Rose (F.faults files.old) (F.faults files.new) ⊎ Rose (O.faults out.old) (O.faults out.new)) result.0 }
 {
+    osh_once::one_status();
     let answer = serve(alloc, words, files, out);
     let said = say(alloc, err, answer);
     Status(status(&said))
 }
-
-/// A call comes to one end.
-pub fn one_end()
-    ensures { OneEnd }
-{}

@@ -1,3 +1,4 @@
 pub mod BuiltFlows
-pub mod Judged
+pub mod DefaultNodes
+pub mod VerdictsOf
 pub mod Serving

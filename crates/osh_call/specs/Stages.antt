@@ -1,5 +1,8 @@
 -- The stages of a call that read its texts: what each has found where it goes on.
 use Rattle.std.specs.Prelude.{◌≡◌, ◌⊎◌, ℕ, true, false, List, [], Ok, Err, Some, None}
+use Rattle.config_read.specs.declared.config.Config.{Config}
+use Rattle.config_read.specs.First.{IsSpelled, IsFirstFault}
+use Rattle.config_read.specs.Pools.{default_count}
 use Rattle.ds_port.specs.FileMap.{FileMap, file_at}
 use Rattle.flow_graph.specs.declared.flow.Flow.{Flow}
 use Rattle.flow_graph.specs.Charts.{Chart}
@@ -13,6 +16,12 @@ use Rattle.osh_ends.specs.Built.{is_built}
 pub record IsFlowIn (text : List ℕ) (flow : Flow) : Type 0 where
   pub spelled : flow_of text ≡ Ok flow
   pub built : is_built flow ≡ true
+
+-- a text spells a configuration with so many nodes in its default pool
+pub record IsNodesIn (text : List ℕ) (nodes : ℕ) : Type 0 where
+  pub config : Config
+  pub spelled : IsSpelled text config
+  pub count : nodes ≡ default_count config.nodes
 
 -- a file is there, and its bytes have P
 pub record Has (files : FileMap) (name : List ℕ) (P : List ℕ → Type 0) : Type 0 where
@@ -45,6 +54,12 @@ FlowInStops text (answer.BadFlow at why) = flow_of text ≡ Err (record { at = a
 FlowInStops text answer.Unbuilt = (flow : Flow) × (flow_of text ≡ Ok flow) × (is_built flow ≡ false)
 FlowInStops text answer.Memory = Unit {0}
 FlowInStops text a = ⊥
+
+-- a text is no configuration
+abbrev pub NodesInStops : List ℕ → Answer → Type 0
+NodesInStops text (answer.BadConfig at why) = IsFirstFault text at why
+NodesInStops text answer.Memory = Unit {0}
+NodesInStops text a = ⊥
 
 -- a file isn't there, or its text stops the call, or a device failed, or memory was wanting
 abbrev pub FileStops : FileMap → List ℕ → (List ℕ → Answer → Type 0) → Answer → Type 0

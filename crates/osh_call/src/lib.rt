@@ -2,9 +2,16 @@
 #![tactic(auto)]
 
 mod answer;
-mod check;
 mod checking;
-mod say;
+mod err_line;
 mod stages;
+mod telling;
+
+pub use answer::Answer;
+pub use checking::{judged, shaped};
+pub use err_line::{say, status};
+pub use stages::{absent, flow_at, nodes_at};
+pub use telling::{check, tell};
+
 #[cfg(test)]
 mod tests;

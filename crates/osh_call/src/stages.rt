@@ -1,10 +1,11 @@
 //! The texts that a command needs.
 
-ghost use Rattle.std.specs.Prelude.{◌≡◌, ◌⊎◌, IsTrue, IfOk, IfErr};
+ghost use Rattle.std.specs.Prelude.{◌≡◌, ◌⊎◌, ◌<◌, IsTrue, IfOk, IfErr};
 ghost use Rattle.ds_port.specs.Causes.{HasCause};
-ghost use Rattle.osh_call.specs.Stages.{IsFlowIn, IsRead, Has, FlowInStops, FileStops};
+ghost use Rattle.osh_call.specs.Stages.{IsFlowIn, IsNodesIn, IsRead, Has, FlowInStops, NodesInStops, FileStops};
 
 use crate::answer::Answer;
+use config_read::{ConfigFault, default_nodes, read_config};
 use ds_port::Files;
 use ds_value::Name;
 use flow_graph::Flow;
@@ -54,6 +55,36 @@ pub fn flow_at<F: Files>(alloc: Global, files: &mut F, name: &Name) -> Result<Fl
         Err(LoadFault::NotFound) => Err(absent(name)),
         Err(LoadFault::Failed) => Err(Answer::Device),
         // What is too long to be read whole is too long for memory.
+        Err(LoadFault::Refused) => Err(Answer::Memory),
+        Err(LoadFault::TooLong) => Err(Answer::Memory),
+    }
+}
+
+/// The number of nodes in the default pool of the configuration that a text spells.
+fn nodes_in(alloc: Global, text: &[u8]) -> Result<u32, Answer>
+    ensures nodes { IfOk result (IsNodesIn text.now) }
+    ensures some { IfOk result (λ nodes. 0 < nodes) }
+    ensures stops { IfErr result (NodesInStops text.now) }
+{
+    match read_config(alloc, text) {
+        Ok(config) => Ok(default_nodes(&config)),
+        Err(ConfigFault::Bad { at, why }) => Err(Answer::BadConfig { at, why }),
+        Err(ConfigFault::Memory) => Err(Answer::Memory),
+    }
+}
+
+/// The number of nodes in the default pool of the configuration in a file.
+pub fn nodes_at<F: Files>(alloc: Global, files: &mut F, name: &Name) -> Result<u32, Answer>
+    ensures found { IsTrue F.tells → IfOk result (λ nodes. Has (F.holds files.old) name.now (λ text. IsNodesIn text nodes)) }
+    ensures some { IfOk result (λ nodes. 0 < nodes) }
+    ensures stops { IsTrue F.tells → IfErr result (FileStops (F.holds files.old) name.now NodesInStops) }
+    ensures same { F.holds files.new ≡ F.holds files.old }
+    ensures cause { HasCause (F.faults files.old) (F.faults files.new) (result ≡ Err Answer.Device) }
+{
+    match load(alloc, files, name) {
+        Ok(text) => nodes_in(alloc, text.as_slice()),
+        Err(LoadFault::NotFound) => Err(absent(name)),
+        Err(LoadFault::Failed) => Err(Answer::Device),
         Err(LoadFault::Refused) => Err(Answer::Memory),
         Err(LoadFault::TooLong) => Err(Answer::Memory),
     }

@@ -1,6 +1,6 @@
 use crate::answer::Answer;
-use crate::check::check;
-use crate::say::{say, status};
+use crate::err_line::{say, status};
+use crate::telling::check;
 use ds_port::{MemFiles, MemSink, NeverFails};
 use ds_value::{Bytes, Name};
 use std::alloc::Global;

@@ -1,5 +1,5 @@
 -- What a call comes to, where no device fails and there is memory.
-use Rattle.std.specs.Prelude.{◌≡◌, ◌⊎◌, ◌<◌, ℕ, Bool, true, false, List, [], ◌∷◌, ◌++◌, length, Result, Ok, Err, Option, None, Some}
+use Rattle.std.specs.Prelude.{◌≡◌, ◌⊎◌, ◌<◌, ℕ, true, false, List, [], ◌∷◌, length, Ok, Err, None, Some}
 use Rattle.std.specs.List.{flat_map, range_with_len}
 use Rattle.op_base.specs.declared.fault.Fault.{Fault}
 use Rattle.op_base.specs.Columns.{Row}
@@ -8,7 +8,7 @@ use Rattle.ds_port.specs.FileMap.{FileMap, file_at}
 use Rattle.config_read.specs.declared.fault.ConfigWhy.{ConfigWhy}
 use Rattle.config_read.specs.declared.config.Config.{Config}
 use Rattle.config_read.specs.Pools.{default_count}
-use Rattle.config_read.specs.Reading.{config_of}
+use Rattle.config_read.specs.First.{IsSpelled, IsFirstFault}
 use Rattle.flow_files.specs.Tallies.{IsLeast}
 use Rattle.flow_files.specs.Texts.{exported_text}
 use Rattle.flow_graph.specs.declared.flow.Flow.{Flow}
@@ -68,8 +68,8 @@ FlowIn text next end =
 -- the number of nodes in the default pool of the configuration that a text spells
 abbrev pub NodesIn : List ℕ → (ℕ → End → Type 0) → End → Type 0
 NodesIn text next end =
-    ((at : ℕ) × (why : ConfigWhy) × (config_of text ≡ Err (record { at = at; why = why })) × (end ≡ bad_config at why))
-    ⊎ ((config : Config) × (config_of text ≡ Ok config) × next (default_count config.nodes) end)
+    ((at : ℕ) × (why : ConfigWhy) × IsFirstFault text at why × (end ≡ bad_config at why))
+    ⊎ ((config : Config) × IsSpelled text config × next (default_count config.nodes) end)
 
 -- the shape of a flow
 abbrev pub Shapes : Flow → (Chart → End → Type 0) → End → Type 0

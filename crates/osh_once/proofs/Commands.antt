@@ -16,14 +16,13 @@ use Rattle.flow_rules.specs.Verdicts.{IsVerdict, nodes_of}
 use Rattle.flow_rules.proofs.OneVerdict.{one_verdict}
 use Rattle.flow_shape.specs.Refusals.{IsShapeOf}
 use Rattle.flow_shape.specs.Spelled.{IsJoined}
-use Rattle.osh_sound.specs.Sound.{ReadIsJoined}
+use Rattle.osh_sound.specs.Sound.{KeepsForms, ReadIsJoined, ReadKeepsForms}
 use Rattle.osh_sound.proofs.FlowsHold.{text_holds}
-use Rattle.osh_sound.proofs.FlowsKeep.{spelled_joined}
+use Rattle.osh_sound.proofs.FlowsKeep.{spelled_forms, spelled_joined}
 use Rattle.osh_words.specs.declared.command.Command.{Command}
 use Rattle.osh_words.specs.declared.command.Command.TheVariants as command
 use Rattle.osh_words.specs.Spelled.{Spells}
 use Rattle.osh_words.proofs.Sound.{one_command}
-use Rattle.osh_ends.specs.Built.{is_built}
 use Rattle.osh_ends.specs.Ends.{End, end_status, usage, unbuilt, absent, refused, verdict_end, AcceptedRuns, Checks, ChecksFile, Commands, Finishes, OneStatus, RunsFile, RunsTo, VerdictRuns}
 use Rattle.osh_ends.specs.Reports.{verdict_report}
 use Rattle.osh_once.proofs.Meant.{one_bag}
@@ -32,6 +31,9 @@ use Rattle.osh_once.proofs.Stages.{HasOneStatus, one_chart, one_flow, one_found,
 
 read_joined : ReadIsJoined
 read_joined bytes flow h = spelled_joined (limited_text Osh bytes).lexemes flow (text_holds bytes flow h).tokens
+
+read_forms : ReadKeepsForms
+read_forms bytes flow h = spelled_forms (limited_text Osh bytes).lexemes flow (text_holds bytes flow h).tokens
 
 -- ---- verdicts
 
@@ -53,19 +55,19 @@ finish_status : (c : Chart) (states : List State) (choices : List Choice) (nodes
 finish_status c states choices nodes whole [] x p = ap end_status p.2
 finish_status c states choices nodes whole (f ∷ fs) x p = ap end_status p.2
 
-one_run : (files : FileMap) (flow : Flow) (c : Chart) (nodes : ℕ) (states : List State) (choices : List Choice) → is_built flow ≡ true → IsShapeOf flow [] c → HasOneStatus (RunsTo files c nodes states choices)
-one_run files flow c nodes states choices built s x y p q =
+one_run : (files : FileMap) (flow : Flow) (c : Chart) (nodes : ℕ) (states : List State) (choices : List Choice) → KeepsForms flow → IsShapeOf flow [] c → HasOneStatus (RunsTo files c nodes states choices)
+one_run files flow c nodes states choices forms s x y p q =
     finish_status c states choices nodes p.1 (meant_faults p.1 (nodes_of c p.0)) x p.3
-    ∙ ap status_of (one_bag files flow [] c p.0 q.0 p.1 q.1 built s p.2 q.2)
+    ∙ ap status_of (one_bag files flow [] c p.0 q.0 p.1 q.1 forms s p.2 q.2)
     ∙ sym (finish_status c states choices nodes q.1 (meant_faults q.1 (nodes_of c q.0)) y q.3)
 
-one_accepted : (files : FileMap) (flow : Flow) (c : Chart) (nodes : ℕ) (v : Verdict) → is_built flow ≡ true → IsShapeOf flow [] c → HasOneStatus (AcceptedRuns files c nodes v)
-one_accepted files flow c nodes (Accepted states choices) built s = one_seating c choices nodes (RunsTo files c nodes states choices) (one_run files flow c nodes states choices built s)
-one_accepted files flow c nodes (Refused link need have) built s = same_end (refused (verdict_report c (Refused link need have)))
+one_accepted : (files : FileMap) (flow : Flow) (c : Chart) (nodes : ℕ) (v : Verdict) → KeepsForms flow → IsShapeOf flow [] c → HasOneStatus (AcceptedRuns files c nodes v)
+one_accepted files flow c nodes (Accepted states choices) forms s = one_seating c choices nodes (RunsTo files c nodes states choices) (one_run files flow c nodes states choices forms s)
+one_accepted files flow c nodes (Refused link need have) forms s = same_end (refused (verdict_report c (Refused link need have)))
 
-one_judged : (files : FileMap) (flow : Flow) (c : Chart) (nodes : ℕ) → is_built flow ≡ true → IsJoined flow → IsShapeOf flow [] c → HasOneStatus (VerdictRuns files c nodes)
-one_judged files flow c nodes built joined s x y p q =
-    one_accepted files flow c nodes q.0 built s x y (subst (λ v. AcceptedRuns files c nodes v x) (same_verdict flow c p.0 q.0 joined s p.1 q.1) p.2) q.2
+one_judged : (files : FileMap) (flow : Flow) (c : Chart) (nodes : ℕ) → KeepsForms flow → IsJoined flow → IsShapeOf flow [] c → HasOneStatus (VerdictRuns files c nodes)
+one_judged files flow c nodes forms joined s x y p q =
+    one_accepted files flow c nodes q.0 forms s x y (subst (λ v. AcceptedRuns files c nodes v x) (same_verdict flow c p.0 q.0 joined s p.1 q.1) p.2) q.2
 
 -- ---- commands
 
@@ -83,7 +85,7 @@ one_ran files name config_name =
     one_read (file_at files config_name) (absent config_name) _ (λ config.
     one_nodes config _ (λ nodes.
     one_chart flow _ (read_joined text flow h) (λ c s.
-    one_found files c _ (one_judged files flow c nodes built (read_joined text flow h) s))))))
+    one_found files c _ (one_judged files flow c nodes (read_forms text flow h) (read_joined text flow h) s))))))
 
 one_called : (files : FileMap) (c : Command) → HasOneStatus (Commands files c)
 one_called files (command.Check flow) = one_checked files flow

@@ -1,10 +1,8 @@
 -- Over the same files a flow means one thing: its operators are the same, and so are their faults.
-use Rattle.std.proofs.Common.{◌≡◌, ◌<◌, ◌&&◌, ◌==◌, not, ℕ, zero, suc, true, false, inl, inr, List, [], ◌∷◌, ◌++◌, map, refl, sym, ap, ap₂, ◌∙◌, subst, arith, length, get_or, Option, None, Some}
-use Rattle.std.specs.List.{AllByRecursion, list_all}
-use Rattle.std.proofs.lemmas.Bool.{eqb-true}
+use Rattle.std.proofs.Common.{◌≡◌, ℕ, inl, inr, List, [], ◌∷◌, ◌++◌, map, refl, sym, ap, ap₂, ◌∙◌, subst, Option, None}
+use Rattle.std.specs.List.{AllByRecursion}
 use Rattle.ds_port.specs.FileMap.{FileMap}
 use Rattle.ds_schema.specs.declared.schema.Field.{Field}
-use Rattle.ds_text.specs.Forms.{FormFits}
 use Rattle.flow_files.specs.Lines.{AreLines, beyond}
 use Rattle.flow_files.proofs.OneList.{one_list}
 use Rattle.op_base.specs.Columns.{IsIn, Row}
@@ -18,42 +16,28 @@ use Rattle.flow_graph.specs.Operators.{Op, faults, import, result}
 use Rattle.flow_graph.specs.Runs.{Forward, Means, Node, Out, meant_faults}
 use Rattle.flow_rules.specs.Verdicts.{node_at, nodes_of}
 use Rattle.flow_rules.proofs.FlowAll.{along_all}
-use Rattle.flow_shape.specs.Refusals.{IsShapeOf}
-use Rattle.flow_shape.proofs.Orders.{and_parts}
-use Rattle.osh_ends.specs.Built.{has_commas, is_built, is_built_field, is_built_link, is_built_op}
+use Rattle.flow_shape.specs.Causes.{first_cause}
+use Rattle.flow_shape.specs.Options.{option_causes}
+use Rattle.flow_shape.specs.Refusals.{IsShapeOf, inputs_at}
+use Rattle.flow_shape.proofs.Causing.{all_at}
 use Rattle.osh_ends.specs.FlowFiles.{IsMeaning, IsOp, form}
+use Rattle.osh_ends.proofs.Forms.{form_fits, options_sound}
+use Rattle.osh_sound.specs.Sound.{AreWidths, FormStands, KeepsForms}
 use Rattle.osh_once.proofs.Orders.{goes_forward, ordered_below}
 
 -- ---- operators
 
-comma_fits : (fields : List Field) (delim : ℕ) (fixed : Option (List ℕ)) → has_commas delim fixed ≡ true → FormFits fields (form delim fixed)
-comma_fits fields delim None h =
-    let e : delim ≡ 44 = eqb-true delim 44 (and_parts (delim == 44) true h).0 in
-    record { no_end = λ f. absurd (omega (arith, e, f)); no_return = λ f. absurd (omega (arith, e, f)); no_quote = λ f. absurd (omega (arith, e, f)) }
-comma_fits fields delim (Some widths) h = let e = (and_parts (delim == 44) false h).1 in absurd (cc e)
-
-same_op : (files : FileMap) (c : Chart) (o : ℕ) (k : OpKind) (a b : Op) → is_built_op k ≡ true → IsOp files c o k a → IsOp files c o k b → a ≡ b
-same_op files c o (kind.Import file schema delim fixed reject) a b built x y =
-    let commas = (and_parts (has_commas delim fixed) (not reject) (and_parts (list_all is_built_field schema) (has_commas delim fixed && not reject) built).1).0 in
+same_op : (files : FileMap) (c : Chart) (o : ℕ) (k : OpKind) (ins : List (List Field)) (a b : Op) → FormStands k → first_cause (option_causes k ins) ≡ None → IsOp files c o k a → IsOp files c o k b → a ≡ b
+same_op files c o (kind.Import file schema delim fixed reject) ins a b stands none x y =
     let h = sym x.2 ∙ y.2 in
     let bytes : x.0 ≡ y.0 = cc h in
-    let lines = one_list (form delim fixed) schema o y.0 x.1 y.1 (comma_fits schema delim fixed commas) (subst (λ bs. AreLines (form delim fixed) schema o bs x.1) bytes x.3) y.3 in
+    let lines = one_list (form delim fixed) schema o y.0 x.1 y.1 (form_fits schema delim fixed stands.0 (λ widths e. subst AreWidths e stands.1) none) (subst (λ bs. AreLines (form delim fixed) schema o bs x.1) bytes x.3) y.3 in
     x.4 ∙ ap₂ (λ ls bs. import ls reject (beyond o bs)) lines bytes ∙ sym y.4
-same_op files c o (kind.Export file delim fixed) a b built x y = x ∙ sym y
-same_op files c o kind.Copy a b built x y = x ∙ sym y
-same_op files c o (kind.Tsort key) a b built x y = x ∙ sym y
-same_op files c o (kind.Remdup key last) a b built x y = x ∙ sym y
-same_op files c o k a b built x y = absurd x
-
-all_built : (ops : List OpSpec) (o : ℕ) → list_all (λ (s : OpSpec). is_built_op s.kind) ops ≡ true → o < length ops → is_built_op (get_or ops o no_op).kind ≡ true
-all_built [] o h l = absurd (omega (arith, l))
-all_built (s ∷ ops) zero h l = (and_parts (is_built_op s.kind) (list_all (λ (r : OpSpec). is_built_op r.kind) ops) h).0
-all_built (s ∷ ops) (suc o) h l = all_built ops o (and_parts (is_built_op s.kind) (list_all (λ (r : OpSpec). is_built_op r.kind) ops) h).1 (omega (arith, l))
-
-built_at : (flow : Flow) (o : ℕ) → is_built flow ≡ true → o < length flow.ops → is_built_op (get_or flow.ops o no_op).kind ≡ true
-built_at flow o h l =
-    let parts = (and_parts (not flow.nopart && not flow.nosort) (list_all (λ (s : OpSpec). is_built_op s.kind) flow.ops && list_all (is_built_link flow.ops) flow.links) h).1 in
-    all_built flow.ops o (and_parts (list_all (λ (s : OpSpec). is_built_op s.kind) flow.ops) (list_all (is_built_link flow.ops) flow.links) parts).0 l
+same_op files c o (kind.Export file delim fixed) ins a b stands none x y = x ∙ sym y
+same_op files c o kind.Copy ins a b stands none x y = x ∙ sym y
+same_op files c o (kind.Tsort key) ins a b stands none x y = x ∙ sym y
+same_op files c o (kind.Remdup key last) ins a b stands none x y = x ∙ sym y
+same_op files c o k ins a b stands none x y = absurd x
 
 same_nodes : (c : Chart) (a b : ℕ → Op) (order : List ℕ) → ((o : ℕ) → IsIn o order → a o ≡ b o) → map (node_at c a) order ≡ map (node_at c b) order
 same_nodes c a b [] h = refl
@@ -90,10 +74,10 @@ same_faults v w nodes f h k =
         let ins = same_map v w n.ins e in
         (same_outs v w n.op (map v n.ins) (map w n.ins) ins n.outs q.0 q.1, ap (faults n.op) ins)
 
-pub one_bag : (files : FileMap) (flow : Flow) (dict : List Stored) (c : Chart) (a b : ℕ → Op) (v w : ℕ → List Row) → is_built flow ≡ true → IsShapeOf flow dict c → IsMeaning files c a v → IsMeaning files c b w → meant_faults v (nodes_of c a) ≡ meant_faults w (nodes_of c b)
-one_bag files flow dict c a b v w built s x y =
-    let here : is_built c.flow ≡ true = subst (λ f. is_built f ≡ true) (sym s.same) built in
+pub one_bag : (files : FileMap) (flow : Flow) (dict : List Stored) (c : Chart) (a b : ℕ → Op) (v w : ℕ → List Row) → KeepsForms flow → IsShapeOf flow dict c → IsMeaning files c a v → IsMeaning files c b w → meant_faults v (nodes_of c a) ≡ meant_faults w (nodes_of c b)
+one_bag files flow dict c a b v w forms s x y =
+    let here : KeepsForms c.flow = subst KeepsForms (sym s.same) forms in
     let nodes : nodes_of c a ≡ nodes_of c b = same_nodes c a b c.order (λ o i.
     let l = ordered_below flow dict c s o i in
-    same_op files c o (op_at c o).kind (a o) (b o) (built_at c.flow o here l) (x.ops_are o l) (y.ops_are o l)) in
+    same_op files c o (op_at c o).kind (inputs_at c o) (a o) (b o) (all_at (λ (p : OpSpec). FormStands p.kind) c.flow.ops o no_op here l) (options_sound c o (s.schemas.fits o l)) (x.ops_are o l) (y.ops_are o l)) in
     ap (meant_faults v) nodes ∙ same_faults v w (nodes_of c b) (goes_forward flow dict c b s) (subst (AllByRecursion (Means v)) nodes x.means) y.means

@@ -3,6 +3,7 @@ use Rattle.std.proofs.Common.{◌≡◌, ◌⊎◌, inl, inr, ℕ, true, false, 
 use Rattle.ds_port.specs.FileMap.{FileMap}
 use Rattle.config_read.specs.declared.config.Config.{Config}
 use Rattle.config_read.specs.Pools.{default_count}
+use Rattle.config_read.proofs.OneAnswer.{one_configuration, faulty_is_none}
 use Rattle.flow_graph.specs.Charts.{Chart}
 use Rattle.flow_graph.specs.declared.flow.Flow.{Flow}
 use Rattle.flow_graph.specs.declared.route.Choice.{Choice}
@@ -60,11 +61,10 @@ one_flow text next each x y (inr a) (inr b) =
 
 pub one_nodes : (text : List ℕ) (next : ℕ → End → Type 0) → ((nodes : ℕ) → HasOneStatus (next nodes)) → HasOneStatus (NodesIn text next)
 one_nodes text next each x y (inl a) (inl b) = ap end_status a.3 ∙ sym (ap end_status b.3)
-one_nodes text next each x y (inl a) (inr b) = let h = sym a.2 ∙ b.1 in absurd (cc h)
-one_nodes text next each x y (inr a) (inl b) = let h = sym b.2 ∙ a.1 in absurd (cc h)
+one_nodes text next each x y (inl a) (inr b) = absurd (faulty_is_none text a.0 a.1 b.0 a.2 b.1)
+one_nodes text next each x y (inr a) (inl b) = absurd (faulty_is_none text b.0 b.1 a.0 b.2 a.1)
 one_nodes text next each x y (inr a) (inr b) =
-    let h = sym a.1 ∙ b.1 in
-    let same : a.0 ≡ b.0 = cc h in each (default_count b.0.nodes) x y (subst (λ (c : Config). next (default_count c.nodes) x) same a.2) b.2
+    let same = one_configuration text a.0 b.0 a.1 b.1 in each (default_count b.0.nodes) x y (subst (λ (c : Config). next (default_count c.nodes) x) same a.2) b.2
 
 -- ---- shapes, files and seats
 

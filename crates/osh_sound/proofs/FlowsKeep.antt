@@ -20,7 +20,7 @@ use Rattle.osh_read.specs.declared.stage.Directives.{Directives}
 use Rattle.osh_read.specs.Joining.{ops, links, unjoined}
 use Rattle.osh_read.specs.Flows.{made}
 use Rattle.osh_sound.specs.Grammar.{method_phrase, redirect_phrase, redirects_phrase, joint_phrase, WrittenStage, stage_phrase, IsStage, AreStages, stages_of, further_phrase, stages_phrase, SpellsFlow}
-use Rattle.osh_sound.specs.Sound.{MarkFits, KeepsMarks}
+use Rattle.osh_sound.specs.Sound.{FormStands, KeepsForms, MarkFits, KeepsMarks}
 use Rattle.osh_sound.proofs.KindsKeep.{Keeps, differ, operator_keeps}
 use Rattle.osh_sound.proofs.JoinsKeep.{RedirectFits, JointFits, StageFits, all_lie, lies_within, lies_differing, in_order, stage_ports}
 
@@ -84,7 +84,11 @@ fit_keys (s ∷ ss) h = (h.0.0.0, fit_keys ss h.1)
 
 fit_marks : (ss : List Stage) → AllByRecursion Fits ss → AllByRecursion (λ (o : OpSpec). MarkFits o.kind o.mark) (ops ss)
 fit_marks [] h = tt
-fit_marks (s ∷ ss) h = (h.0.0.1, fit_marks ss h.1)
+fit_marks (s ∷ ss) h = (h.0.0.1.0, fit_marks ss h.1)
+
+fit_forms : (ss : List Stage) → AllByRecursion Fits ss → AllByRecursion (λ (o : OpSpec). FormStands o.kind) (ops ss)
+fit_forms [] h = tt
+fit_forms (s ∷ ss) h = (h.0.0.1.1, fit_forms ss h.1)
 
 as_many : (ss : List Stage) → length (ops ss) ≡ length ss
 as_many [] = refl
@@ -114,3 +118,6 @@ spelled_joined ts flow s =
 
 pub spelled_keeps : (ts : List Lexeme) (flow : Flow) → SpellsFlow ts flow → KeepsMarks flow
 spelled_keeps ts flow s = subst KeepsMarks (sym s.made) (fit_marks (stages_of s.written) (spelled_fits ts flow s))
+
+pub spelled_forms : (ts : List Lexeme) (flow : Flow) → SpellsFlow ts flow → KeepsForms flow
+spelled_forms ts flow s = subst KeepsForms (sym s.made) (fit_forms (stages_of s.written) (spelled_fits ts flow s))

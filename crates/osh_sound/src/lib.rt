@@ -8,7 +8,7 @@ ghost use Rattle.osh_sound.specs.GrammarLaws.{OneIsSpelled, ReadIsSpelled, Refus
 ghost use Rattle.osh_sound.specs.ValueLaws.{ValuesReadBack};
 ghost use Rattle.osh_sound.specs.OperatorLaws.{WrittenIsPrinted, WrittenSays};
 ghost use Rattle.osh_sound.specs.OptionLaws.{OptionsArePrinted};
-ghost use Rattle.osh_sound.specs.Sound.{ReadIsJoined, ReadKeepsMarks};
+ghost use Rattle.osh_sound.specs.Sound.{ReadIsJoined, ReadKeepsForms, ReadKeepsMarks};
 
 pub use worked::{joined_texts, refused_texts};
 
@@ -20,10 +20,12 @@ pub fn flows_are_spelled()
     ensures one { OneIsSpelled }
 {}
 
-/// The flow that is read of a text can be shaped, and its operators run as they can.
+/// The flow that is read of a text can be shaped, its operators run as they can, and its files
+/// have forms that records can have.
 pub fn flows_can_be_shaped()
     ensures joined { ReadIsJoined }
     ensures marks { ReadKeepsMarks }
+    ensures forms { ReadKeepsForms }
 {}
 
 /// The printed value of an option is read as the value.

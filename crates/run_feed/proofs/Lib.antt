@@ -1,4 +1,5 @@
 pub mod Absent
+pub mod Forms
 pub mod Rows
 pub mod Ports
 pub mod Ready

@@ -1,6 +1,6 @@
 -- Operators whose files are read one after another.
-use Rattle.std.proofs.Common.{◌≡◌, ◌+◌, ◌<◌, ◌==◌, ◌&&◌, ℕ, zero, suc, Bool, true, false, cond, List, [], ◌∷◌, ◌++◌, flat_map, get_or, length, inl, inr, append_assoc, refl, sym, ap, ap₂, ◌∙◌, subst, arith}
-use Rattle.std.specs.List.{list_all, range_with_len}
+use Rattle.std.proofs.Common.{◌≡◌, ◌+◌, ◌<◌, ◌==◌, ℕ, zero, suc, Bool, true, false, cond, List, [], ◌∷◌, ◌++◌, flat_map, get_or, length, inl, inr, append_assoc, refl, sym, ap, ap₂, ◌∙◌, subst, arith}
+use Rattle.std.specs.List.{range_with_len}
 use Rattle.std.proofs.lemmas.Bool.{eqb-true}
 use Rattle.std.proofs.lemmas.Bool.Decides.{nat_tests}
 use Rattle.std.proofs.lemmas.List.{append-nil, get_or_append_left}
@@ -20,12 +20,11 @@ use Rattle.flow_graph.specs.declared.op_kind.OpKind.TheVariants as kind
 use Rattle.flow_graph.specs.Charts.{Chart, keys_at, no_op, op_at}
 use Rattle.flow_graph.specs.Operators.{Op, by_row, faults, import, remdup, tsort}
 use Rattle.flow_score.proofs.Ranges.{range_more}
-use Rattle.flow_shape.proofs.Orders.{and_parts}
 use Rattle.flow_sound.specs.Tallies.{faults_read, if_import}
 use Rattle.flow_sound.proofs.Members.{below_range}
-use Rattle.osh_ends.specs.Built.{has_commas, is_built_field, is_built_op}
+use Rattle.osh_ends.specs.Built.{is_built_op}
 use Rattle.osh_ends.specs.FlowFiles.{IsOp, fields_of, form, input_of}
-use Rattle.run_feed.specs.Sources.{ReadTo, ReadsFile, RowsSuit, rows_read}
+use Rattle.run_feed.specs.Sources.{AllSuit, ReadTo, ReadsFile, RowsSuit, rows_read}
 
 pub at_item : (ops : List OpSpec) (i : ℕ) (x : OpSpec) → i < length ops → x ≡ get_or ops i x → x ≡ get_or ops i no_op
 at_item [] i x h e = absurd (omega arith)
@@ -33,19 +32,17 @@ at_item (op ∷ ops) zero x h e = e
 at_item (op ∷ ops) (suc i) x h e = at_item ops i x (omega arith) e
 
 -- an operator whose file was read
-abbrev IsRead : FileMap → Chart → ℕ → OpKind → List Row → Tally → Tally → Type 0
-IsRead files c o k rows old new = (op : Op) × IsOp files c o k op × (rows ≡ rows_read k op) × Grows old new (if_import k (faults op []))
+abbrev IsRead : FileMap → Chart → ℕ → OpKind → List Row → List Row → Tally → Tally → Type 0
+IsRead files c o k rows rejected old new = (op : Op) × IsOp files c o k op × (rows ≡ rows_read 0 k op) × (rejected ≡ rows_read 1 k op) × Grows old new (if_import k (faults op []))
 
-is_read : (files : FileMap) (c : Chart) (o : ℕ) (k : OpKind) (rows : List Row) (old new : Tally) → is_built_op k ≡ true → ReadsFile files o k rows old new → IsRead files c o k rows old new
-is_read files c o (kind.Import file schema delim fixed true) rows old new b h =
-    let e = (and_parts (has_commas delim fixed) false (and_parts (list_all is_built_field schema) (has_commas delim fixed && false) b).1).1 in cc
-is_read files c o (kind.Import file schema delim fixed false) rows old new b h =
-    let i = h.2 in (import i.lines false (beyond o h.0), (h.0, i.lines, h.1, i.are, refl), i.rows_are, i.faults)
-is_read files c o (kind.Export file delim fixed) rows old new b h = (by_row (sink_rule (export_faults o (form delim fixed) (fields_of c (input_of c o)))), refl, h.0, h.1)
-is_read files c o kind.Copy rows old new b h = (by_row copy_rule, refl, h.0, h.1)
-is_read files c o (kind.Tsort key) rows old new b h = (tsort (get_keys (keys_at c o) 0), refl, h.0, h.1)
-is_read files c o (kind.Remdup key last) rows old new b h = (remdup last (get_keys (keys_at c o) 0), refl, h.0, h.1)
-is_read files c o k rows old new b h = cc
+is_read : (files : FileMap) (c : Chart) (o : ℕ) (k : OpKind) (rows rejected : List Row) (old new : Tally) → is_built_op k ≡ true → ReadsFile files o k rows rejected old new → IsRead files c o k rows rejected old new
+is_read files c o (kind.Import file schema delim fixed reject) rows rejected old new b h =
+    let i = h.2 in (import i.lines reject (beyond o h.0), (h.0, i.lines, h.1, i.are, refl), i.rows_are, i.rejected_are, i.faults)
+is_read files c o (kind.Export file delim fixed) rows rejected old new b h = (by_row (sink_rule (export_faults o (form delim fixed) (fields_of c (input_of c o)))), refl, h.0, h.1, h.2)
+is_read files c o kind.Copy rows rejected old new b h = (by_row copy_rule, refl, h.0, h.1, h.2)
+is_read files c o (kind.Tsort key) rows rejected old new b h = (tsort (get_keys (keys_at c o) 0), refl, h.0, h.1, h.2)
+is_read files c o (kind.Remdup key last) rows rejected old new b h = (remdup last (get_keys (keys_at c o) 0), refl, h.0, h.1, h.2)
+is_read files c o k rows rejected old new b h = cc
 
 -- ---- one operator more
 
@@ -92,9 +89,16 @@ faults_more c ops n op =
     (same_flat (faults_read c (with_op ops n op)) (faults_read c ops) (range_with_len 0 n) (λ o i. ap (λ p. if_import (op_at c o).kind (faults p [])) (with_old ops n op o (below_range n o i))))
     (ap (λ p. if_import (op_at c n).kind (faults p [])) (with_new ops n op))
 
-pub read_more : (files : FileMap) (c : Chart) (n : ℕ) (rows : List (List Row)) (x : List Row) (old mid new : Tally) → is_built_op (op_at c n).kind ≡ true → length rows ≡ n → ReadTo files c n rows old mid → ReadsFile files n (op_at c n).kind x mid new → ReadTo files c (n + 1) (rows ++ x ∷ []) old new
-read_more files c n rows x old mid new b len r h =
-    let one = is_read files c n (op_at c n).kind x mid new b h in
+rows_more : (c : Chart) (q n : ℕ) (rows : List (List Row)) (x : List Row) (ops : ℕ → Op) (op : Op) → length rows ≡ n → ((o : ℕ) → o < n → get_or rows o [] ≡ rows_read q (op_at c o).kind (ops o)) → x ≡ rows_read q (op_at c n).kind op
+    → (o : ℕ) → o < n + 1 → get_or (rows ++ x ∷ []) o [] ≡ rows_read q (op_at c o).kind (with_op ops n op o)
+rows_more c q n rows x ops op len each new = below_next (λ o. get_or (rows ++ x ∷ []) o [] ≡ rows_read q (op_at c o).kind (with_op ops n op o)) n
+    (λ o l. get_or_append_left rows (x ∷ []) [] o (omega (arith, l, len)) ∙ each o l ∙ ap (rows_read q (op_at c o).kind) (sym (with_old ops n op o l)))
+    (ap (λ k. get_or (rows ++ x ∷ []) k []) (sym len) ∙ get_or-append_seam rows x [] [] ∙ new ∙ ap (rows_read q (op_at c n).kind) (sym (with_new ops n op)))
+
+pub read_more : (files : FileMap) (c : Chart) (n : ℕ) (rows rejected : List (List Row)) (x y : List Row) (old mid new : Tally) → is_built_op (op_at c n).kind ≡ true → length rows ≡ n → length rejected ≡ n → ReadTo files c n rows rejected old mid → ReadsFile files n (op_at c n).kind x y mid new
+    → ReadTo files c (n + 1) (rows ++ x ∷ []) (rejected ++ y ∷ []) old new
+read_more files c n rows rejected x y old mid new b len also r h =
+    let one = is_read files c n (op_at c n).kind x y mid new b h in
     let op = one.0 in
     let ops = with_op r.ops n op in
     record {
@@ -102,17 +106,22 @@ read_more files c n rows x old mid new b len r h =
       are = below_next (λ o. IsOp files c o (op_at c o).kind (with_op r.ops n op o)) n
           (λ o l. subst (IsOp files c o (op_at c o).kind) (sym (with_old r.ops n op o l)) (r.are o l))
           (subst (IsOp files c n (op_at c n).kind) (sym (with_new r.ops n op)) one.1);
-      rows_are = below_next (λ o. get_or (rows ++ x ∷ []) o [] ≡ rows_read (op_at c o).kind (with_op r.ops n op o)) n
-          (λ o l. get_or_append_left rows (x ∷ []) [] o (omega (arith, l, len)) ∙ r.rows_are o l ∙ ap (rows_read (op_at c o).kind) (sym (with_old r.ops n op o l)))
-          (ap (λ k. get_or (rows ++ x ∷ []) k []) (sym len) ∙ get_or-append_seam rows x [] [] ∙ one.2 ∙ ap (rows_read (op_at c n).kind) (sym (with_new r.ops n op)));
+      rows_are = rows_more c 0 n rows x r.ops op len r.rows_are one.2;
+      rejected_are = rows_more c 1 n rejected y r.ops op also r.rejected_are one.3;
       tally = subst (λ k. Grows old new (flat_map (faults_read c (with_op r.ops n op)) (range_with_len 0 k))) (let z : suc n ≡ n + 1 = omega arith in z)
-          (subst (Grows old new) (sym (faults_more c r.ops n op)) (further old mid new (flat_map (faults_read c r.ops) (range_with_len 0 n)) (if_import (op_at c n).kind (faults op [])) r.tally one.3));
+          (subst (Grows old new) (sym (faults_more c r.ops n op)) (further old mid new (flat_map (faults_read c r.ops) (range_with_len 0 n)) (if_import (op_at c n).kind (faults op [])) r.tally one.4));
     }
 
-pub suits_more : (c : Chart) (n : ℕ) (rows : List (List Row)) (x : List Row) → length rows ≡ n → ((o : ℕ) → o < n → RowsSuit (op_at c o).kind (get_or rows o [])) → RowsSuit (op_at c n).kind x → (o : ℕ) → o < n + 1 → RowsSuit (op_at c o).kind (get_or (rows ++ x ∷ []) o [])
-suits_more c n rows x len old new = below_next (λ o. RowsSuit (op_at c o).kind (get_or (rows ++ x ∷ []) o [])) n
-    (λ o l. subst (RowsSuit (op_at c o).kind) (sym (get_or_append_left rows (x ∷ []) [] o (omega (arith, l, len)))) (old o l))
-    (subst (RowsSuit (op_at c n).kind) (sym (ap (λ k. get_or (rows ++ x ∷ []) k []) (sym len) ∙ get_or-append_seam rows x [] [])) new)
+one_more : (rows : List (List Row)) (x : List Row) (n : ℕ) → length rows ≡ n → x ≡ get_or (rows ++ x ∷ []) n []
+one_more rows x n len = sym (ap (λ k. get_or (rows ++ x ∷ []) k []) (sym len) ∙ get_or-append_seam rows x [] [])
 
-pub none_read : (files : FileMap) (c : Chart) (rows : List (List Row)) (tally : Tally) → ReadTo files c 0 rows tally tally
-none_read files c rows tally = record { ops = λ o. by_row copy_rule; are = λ o h. absurd (omega arith); rows_are = λ o h. absurd (omega arith); tally = same tally }
+pub both_subst : {X Y : Type 0} (P : X → Y → Type 0) {a b : X} {c d : Y} → a ≡ b → c ≡ d → P a c → P b d
+both_subst {X} {Y} P {a} {b} {c} {d} e f p = subst (λ x. P x d) e (subst (P a) f p)
+
+pub suits_more : (c : Chart) (n : ℕ) (rows rejected : List (List Row)) (x y : List Row) → length rows ≡ n → length rejected ≡ n → AllSuit c n rows rejected → RowsSuit (op_at c n).kind x y → AllSuit c (n + 1) (rows ++ x ∷ []) (rejected ++ y ∷ [])
+suits_more c n rows rejected x y len also old new = below_next (λ o. RowsSuit (op_at c o).kind (get_or (rows ++ x ∷ []) o []) (get_or (rejected ++ y ∷ []) o [])) n
+    (λ o l. both_subst (RowsSuit (op_at c o).kind) (sym (get_or_append_left rows (x ∷ []) [] o (omega (arith, l, len)))) (sym (get_or_append_left rejected (y ∷ []) [] o (omega (arith, l, also)))) (old o l))
+    (both_subst (RowsSuit (op_at c n).kind) (one_more rows x n len) (one_more rejected y n also) new)
+
+pub none_read : (files : FileMap) (c : Chart) (rows rejected : List (List Row)) (tally : Tally) → ReadTo files c 0 rows rejected tally tally
+none_read files c rows rejected tally = record { ops = λ o. by_row copy_rule; are = λ o h. absurd (omega arith); rows_are = λ o h. absurd (omega arith); rejected_are = λ o h. absurd (omega arith); tally = same tally }

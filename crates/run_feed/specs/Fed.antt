@@ -22,7 +22,7 @@ use Rattle.list_run.specs.declared.ran.Ran.{Ran}
 use Rattle.osh_ends.specs.Built.{is_built}
 use Rattle.osh_ends.specs.Ends.{MeetsGrades}
 use Rattle.osh_ends.specs.FlowFiles.{IsMeaning}
-use Rattle.osh_sound.specs.Sound.{KeepsMarks}
+use Rattle.osh_sound.specs.Sound.{KeepsForms, KeepsMarks}
 
 -- a shaped flow that is built, was accepted, and can be seated on so many nodes
 pub record IsReady (c : Chart) (choices : List Choice) (nodes : ℕ) : Type 0 where
@@ -30,6 +30,7 @@ pub record IsReady (c : Chart) (choices : List Choice) (nodes : ℕ) : Type 0 wh
   pub built : is_built c.flow ≡ true
   pub shape_of : IsShapeOf c.flow [] c
   pub marks : KeepsMarks c.flow
+  pub forms : KeepsForms c.flow
   pub states : List State
   pub verdict : IsVerdict false c (Accepted states choices)
   pub players : ℕ

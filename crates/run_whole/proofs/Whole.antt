@@ -8,6 +8,7 @@ use Rattle.flow_files.specs.Tallies.{Tallies}
 use Rattle.flow_graph.specs.declared.route.Choice.{Choice}
 use Rattle.flow_graph.specs.declared.state.State.{State}
 use Rattle.flow_graph.specs.Charts.{Chart}
+use Rattle.flow_graph.specs.FlowShape.{IsShape}
 use Rattle.flow_rules.specs.declared.verdict.Verdict.{Verdict}
 use Rattle.flow_rules.specs.declared.verdict.Verdict.TheVariants.{Accepted, Refused}
 use Rattle.flow_rules.specs.Verdicts.{IsVerdict, choice_at}
@@ -16,6 +17,7 @@ use Rattle.list_run.specs.declared.ran.Ran.{Ran}
 use Rattle.osh_ends.specs.Ends.{End, RunsTo}
 use Rattle.osh_ends.specs.Leaves.{Broke}
 use Rattle.run_feed.specs.Fed.{Fed, IsReady, SinksFit}
+use Rattle.run_feed.proofs.Forms.{forms_suit}
 use Rattle.run_finish.specs.declared.ending.Ending.{Ending}
 use Rattle.run_finish.specs.declared.ending.Ending.TheVariants as ending
 use Rattle.run_finish.specs.Finished.{Ends, IsRun}
@@ -30,8 +32,8 @@ is_of regains c (Refused link need have) h = h.in_range
 pub each_choice : (c : Chart) (choices : List Choice) (nodes : ℕ) → IsReady c choices nodes → length choices ≡ length c.flow.links
 each_choice c choices nodes r = ap length r.verdict.choices_are ∙ length-map-range_with_len (choice_at c) 0 (length c.flow.links)
 
-pub can_write : (c : Chart) (choices : List Choice) (nodes : ℕ) (ran : Ran) → IsReady c choices nodes → SinksFit c ran → CanWriteAll c ran.sinks
-can_write c choices nodes ran r fit = can_write_all c ran.sinks r.built fit
+pub can_write : (c : Chart) (choices : List Choice) (nodes : ℕ) (ran : Ran) → IsShape c → IsReady c choices nodes → SinksFit c ran → CanWriteAll c ran.sinks
+can_write c choices nodes ran s r fit = can_write_all c ran.sinks (forms_suit c s r.shape_of r.forms) fit
 
 -- what was fed, where nothing was tallied before
 pub is_run : (files : FileMap) (c : Chart) (states : List State) (choices : List Choice) (ran : Ran) (old new : Tally) → Tallies [] old → Fed files c states choices ran old new → IsRun files c states choices ran new

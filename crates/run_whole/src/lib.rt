@@ -44,6 +44,7 @@ pub fn run_accepted<F: Files, O: Sink>(
     ensures files_later { F.faults files.old ≤ F.faults files.new }
     ensures out_later { O.faults out.old ≤ O.faults out.new }
 {
+    shaped.is_shaped();
     let mut tally = Tally::new();
     match feed(alloc, files, shaped, choices, nodes, &mut tally) {
         Ok(ran) => Ok(finish_run(

@@ -1,5 +1,5 @@
-use Rattle.expr_read.proofs.Wholes.{read_is_spelled, spelled_is_read, refused_is_none, one_is_spelled}
+use Rattle.expr_read.proofs.Wholes.{read_is_spelled, spelled_is_read, refused_is_none}
 use Rattle.expr_read.proofs.laws.expressions_are_spelled.Goals as goal
 
 pub returns : goal.returns
-returns c = record { read = read_is_spelled; spelled = spelled_is_read; refused = refused_is_none; one = one_is_spelled }
+returns c = record { read = read_is_spelled; spelled = spelled_is_read; refused = refused_is_none }

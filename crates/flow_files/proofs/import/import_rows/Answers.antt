@@ -14,5 +14,5 @@ onto P Q (Err e) f p = tt
 pub returns-clause-told : goal.returns-clause-told
 returns-clause-told g c = λ tells.
     let bytes : List ℕ = g.S.Source.rest c.args.source in
-    onto _ _ c.read_rows-rows.result (λ rows t. of_file c.args.form.now c.args.schema.now c.args.op bytes (remaining c.new-lines.result) rows.items c.args.tally.now c.read_rows-rows.new.tally c.new-lines.ensures.lines t)
-    (c.read_rows-rows.ensures.told tells (subst AreFew (sym c.new-lines.ensures.lines) (few_lines bytes)))
+    onto _ _ c.read_rows-made.result (λ made t. of_file c.args.form.now c.args.schema.now c.args.op c.args.rejects bytes (remaining c.new-lines.result) made.rows made.rejected c.args.tally.now c.read_rows-made.new.tally c.new-lines.ensures.lines t)
+    (c.read_rows-made.ensures.told tells (subst AreFew (sym c.new-lines.ensures.lines) (few_lines bytes)))

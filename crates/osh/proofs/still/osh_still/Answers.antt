@@ -1,16 +1,19 @@
-use Rattle.std.proofs.Common.{map, string_bytes, sym, subst, rules}
-use Rattle.osh.specs.Serves.{IsExact}
-use Rattle.osh.proofs.Exact.{exact_said, complete}
+use Rattle.std.proofs.Common.{map, string_bytes, ◌⊎◌}
+use Rattle.ds_port.specs.Causes.{Rose}
+use Rattle.osh.proofs.Ending.{runs_complete, runs_exact, said_calls}
 use Rattle.osh.proofs.still.osh_still.Goals as goal
+
+pub returns-clause-calls : goal.returns-clause-calls
+returns-clause-calls g c = λ tells.
+    said_calls (map string_bytes c.args.words.now) (g.F.Files.holds c.args.files.now) (g.F.Files.holds c.serve-answer.new.files) g.O.Sink.tells _ _ _ _ g.E.Sink.tells _ _ _ _
+    c.serve-answer.result c.say-said.result c.status.result (c.serve-answer.ensures.serves tells) c.say-said.ensures.said c.status.ensures c.say-said.ensures.line
 
 pub returns-clause-exact : goal.returns-clause-exact
 returns-clause-exact g c = λ tells.
-    subst (IsExact (map string_bytes c.args.words.now) (g.F.Files.holds c.args.files.now)) (sym c.status.ensures)
-    (exact_said (map string_bytes c.args.words.now) (g.F.Files.holds c.args.files.now) _ _ _ _ c.serve-answer.result c.say-said.result (c.serve-answer.ensures.serves tells) c.say-said.ensures.said)
+    let call = returns-clause-calls g c tells in
+    runs_exact (map string_bytes c.args.words.now) (g.F.Files.holds c.args.files.now) (g.F.Files.holds c.serve-answer.new.files) g.O.Sink.tells _ _ _ _ (call.0) c.status.result c.one_status.ensures (call.1)
 
 pub returns-clause-complete : goal.returns-clause-complete
 returns-clause-complete g c = λ tells.
-    complete (map string_bytes c.args.words.now) (g.F.Files.holds c.args.files.now) _ c.status.result
-    (subst (IsExact (map string_bytes c.args.words.now) (g.F.Files.holds c.args.files.now)) (sym c.status.ensures)
-    (exact_said (map string_bytes c.args.words.now) (g.F.Files.holds c.args.files.now) _ _ _ _ c.serve-answer.result c.say-said.result (c.serve-answer.ensures.serves tells) c.say-said.ensures.said))
-    (search rules)
+    let call = returns-clause-calls g c tells in
+    runs_complete (map string_bytes c.args.words.now) (g.F.Files.holds c.args.files.now) (g.F.Files.holds c.serve-answer.new.files) g.O.Sink.tells _ _ _ _ (call.0) c.status.result c.one_status.ensures (call.1)

@@ -1,6 +1,0 @@
-use Rattle.std.proofs.Common.{◌≡◌, ◌++◌, take}
-use Rattle.osh.specs.Report.{hexadecimal}
-use Rattle.osh.proofs.report.put_hexadecimal.Given as goal
-
-abbrev pub invariant-loop-byte : goal.invariant-loop-byte
-invariant-loop-byte l = l.text ≡ l.fn.text ++ hexadecimal (take l.byte-index l.bytes)

@@ -1,0 +1,235 @@
+use crate::still::osh_still;
+use ds_port::{FailsAt, Failures, MemFiles, MemSink, NeverFails};
+use ds_value::{Bytes, Name};
+use std::alloc::Global;
+use std::process::Abort;
+use std::test::Fail;
+
+const COPY: &[u8] =
+    b"import -file \"in.txt\" -schema 'record ( id: int32; name: string[max=10]; )' | copy [seq] | export -file \"out.txt\"";
+
+const FIRST_PER_KEY: &[u8] =
+    b"import -file \"in.txt\" -schema 'record ( id: int32; city: string[max=8]; )' | [hash id] tsort -key id | [same] remdup -key id | [any] export -file \"out.txt\"";
+
+const SPLIT_KEYS: &[u8] =
+    b"import -file \"in.txt\" -schema 'record ( a: int32; b: int32; c: int32; )' | [hash a] copy | [hash b] tsort -key b | [same] remdup -key b | [any] export -file \"out.txt\"";
+
+const SAME_INTO_MANY: &[u8] =
+    b"import -file \"in.txt\" -schema 'record ( id: int32; name: string[max=10]; )' | [same] copy | [any] export -file \"out.txt\"";
+
+const DEALT: &[u8] =
+    b"import -file \"in.txt\" -schema 'record ( id: int32; name: string[max=10]; )' | [rr] copy | [any] export -file \"out.txt\"";
+
+const NODE: &[u8] =
+    b"\" { fastname \"h\" pools \"\" resource disk \"d\" {pools \"\"} resource scratchdisk \"s\" {pools \"\"} }\n";
+
+fn put<P: Failures>(
+    alloc: Global,
+    files: &mut MemFiles<P>,
+    name: &[u8],
+    bytes: &[u8],
+) -> Result<(), Fail> {
+    let name = Name::from_bytes(alloc, name)?.ok_or("no name")?;
+    files.put(name, Bytes::from_vec(bytes.to_vec(alloc)?))?;
+    Ok(())
+}
+
+/// A configuration of up to nine nodes.
+fn config(alloc: Global, nodes: u8) -> Result<Vec<u8>, Fail> {
+    let mut text = b"{\n".to_vec(alloc)?;
+    for node in 0..nodes.min(9) {
+        text.extend_from_slice(b"node \"n")?;
+        text.push(b'1' + node)?;
+        text.extend_from_slice(NODE)?;
+    }
+    text.extend_from_slice(b"}\n")?;
+    Ok(text)
+}
+
+fn run_words(alloc: Global) -> Result<Vec<String>, Fail> {
+    Ok(vec![in alloc;
+        String::from_str(alloc, "run")?,
+        String::from_str(alloc, "-serial")?,
+        String::from_str(alloc, "f.osh")?,
+        String::from_str(alloc, "c.cfg")?,
+    ]?)
+}
+
+/// A run: the flow, the number of nodes and the input, and what it comes to: the status, what is on
+/// out and on err, and the file that is written.
+struct Run {
+    flow: &'static [u8],
+    nodes: u8,
+    input: &'static [u8],
+    status: u8,
+    out: &'static [u8],
+    err: &'static [u8],
+    written: Option<&'static [u8]>,
+}
+
+fn compare(rt: &impl Abort, alloc: Global, run: &Run) -> Result<(), Fail> {
+    let mut files = MemFiles::new(alloc, NeverFails, NeverFails);
+    put(alloc, &mut files, b"f.osh", run.flow)?;
+    put(alloc, &mut files, b"c.cfg", &config(alloc, run.nodes)?)?;
+    put(alloc, &mut files, b"in.txt", run.input)?;
+    let mut out = MemSink::new(alloc, None, NeverFails);
+    let mut err = MemSink::new(alloc, None, NeverFails);
+    let words = run_words(alloc)?;
+    let answered = osh_still(alloc, &words, &mut files, &mut out, &mut err);
+    assert_eq!(rt; err.bytes(), run.err);
+    assert_eq!(rt; out.bytes(), run.out);
+    assert_eq!(rt; answered.0, run.status);
+    assert_eq!(rt; files.look_up(b"out.txt"), run.written);
+    Ok(())
+}
+
+const RUNS: [Run; 8] = [
+    Run {
+        flow: COPY,
+        nodes: 1,
+        input: b"+01,\"a,b\"\r\n-2,\"d \"\"e\"\"\"",
+        status: 0,
+        out: b"score nodes 1\nop 0 import seq 1\nop 1 copy seq 1\nop 2 export seq 1\nlink 0 0.0 1.0 same\nlink 1 1.0 2.0 same\nplayers 3\nverdict accepted\nlink 0 agree() solo sort()\nlink 1 agree() solo sort()\nsink 2 exact\ncount 0 2\ncount 1 2\nstatus 0\n",
+        err: b"",
+        written: Some(b"1,\"a,b\"\n-2,\"d \"\"e\"\"\"\n"),
+    },
+    Run {
+        flow: COPY,
+        nodes: 4,
+        input: b"1,ann\nx,bob\n3,cy\n",
+        status: 9,
+        out: b"score nodes 4\nop 0 import seq 1\nop 1 copy seq 1\nop 2 export seq 1\nlink 0 0.0 1.0 same\nlink 1 1.0 2.0 same\nplayers 3\nverdict accepted\nlink 0 agree() solo sort()\nlink 1 agree() solo sort()\nsink 2 exact\nfaults 1\nleast op 0 BadRecord 2 782c626f62\nstatus 9\n",
+        err: b"",
+        written: None,
+    },
+    Run {
+        flow: FIRST_PER_KEY,
+        nodes: 4,
+        input: b"2,rome\n1,oslo\n2,bern\n3,kyiv\n1,lima\n4,rome\n",
+        status: 0,
+        out: b"score nodes 4\nop 0 import seq 1\nop 1 tsort par 4\nop 2 remdup par 4\nop 3 export seq 1\nlink 0 0.0 1.0 hash(id)\nlink 1 1.0 2.0 same\nlink 2 2.0 3.0 any\nplayers 10\nverdict accepted\nlink 0 agree(id) hash(id) sort()\nlink 1 agree(id) hash(id) sort(id)\nlink 2 agree(id) solo sort()\nsink 3 by id\ncount 0 6\ncount 1 6\ncount 2 4\nstatus 0\n",
+        err: b"",
+        written: Some(b"4,rome\n3,kyiv\n2,rome\n1,oslo\n"),
+    },
+    Run {
+        flow: FIRST_PER_KEY,
+        nodes: 1,
+        input: b"2,rome\n1,oslo\n2,bern\n",
+        status: 0,
+        out: b"score nodes 1\nop 0 import seq 1\nop 1 tsort par 1\nop 2 remdup par 1\nop 3 export seq 1\nlink 0 0.0 1.0 hash(id)\nlink 1 1.0 2.0 same\nlink 2 2.0 3.0 any\nplayers 4\nverdict accepted\nlink 0 agree(id) hash(id) sort()\nlink 1 agree(id) hash(id) sort(id)\nlink 2 agree(id) solo sort()\nsink 3 by id\ncount 0 3\ncount 1 3\ncount 2 2\nstatus 0\n",
+        err: b"",
+        written: Some(b"1,oslo\n2,rome\n"),
+    },
+    Run {
+        flow: SPLIT_KEYS,
+        nodes: 1,
+        input: b"1,2,3\n",
+        status: 5,
+        out: b"verdict refused link 2 need agree(b) have agree(a,b) hash(b) sort(b)\nstatus 5\n",
+        err: b"",
+        written: None,
+    },
+    Run {
+        flow: SPLIT_KEYS,
+        nodes: 4,
+        input: b"1,2,3\n",
+        status: 5,
+        out: b"verdict refused link 2 need agree(b) have agree(a,b) hash(b) sort(b)\nstatus 5\n",
+        err: b"",
+        written: None,
+    },
+    Run {
+        flow: SAME_INTO_MANY,
+        nodes: 4,
+        input: b"1,ann\n",
+        status: 6,
+        out: b"",
+        err: b"osh: degree link 0 1 4\n",
+        written: None,
+    },
+    Run {
+        flow: DEALT,
+        nodes: 2,
+        input: b"1,ann\n2,bob\n3,cy\n",
+        status: 0,
+        out: b"score nodes 2\nop 0 import seq 1\nop 1 copy par 2\nop 2 export seq 1\nlink 0 0.0 1.0 rr\nlink 1 1.0 2.0 any\nplayers 4\nverdict accepted\nlink 0 bag none sort()\nlink 1 bag solo sort()\nsink 2 bag\ncount 0 3\ncount 1 3\nstatus 0\n",
+        err: b"",
+        written: Some(b"1,ann\n3,cy\n2,bob\n"),
+    },
+];
+
+#[test]
+fn runs_come_to_their_ends(rt: HostRuntime) -> Result<(), Fail> {
+    let alloc = rt.alloc();
+    for run in &RUNS {
+        compare(&rt, alloc, run)?;
+    }
+    Ok(())
+}
+
+// Words, and the status and the line on err that they come to where no file is there.
+#[test]
+fn words_come_to_their_ends(rt: HostRuntime) -> Result<(), Fail> {
+    let alloc = rt.alloc();
+    for (words, status, line) in [
+        ("", 1, b"osh: usage\n".as_slice()),
+        ("check", 1, b"osh: usage\n"),
+        ("run -serial f.osh", 1, b"osh: usage\n"),
+        ("run -serial -cap 0 f.osh c.cfg", 1, b"osh: usage\n"),
+        ("run f.osh c.cfg", 8, b"osh: unbuilt\n"),
+        ("score f.osh c.cfg", 8, b"osh: unbuilt\n"),
+        ("meaning f.osh", 8, b"osh: unbuilt\n"),
+        ("gen 10 1", 8, b"osh: unbuilt\n"),
+        ("check f.osh", 7, b"osh: absent \"f.osh\"\n"),
+        ("run -serial f.osh c.cfg", 7, b"osh: absent \"f.osh\"\n"),
+    ] {
+        let mut all = Vec::new(alloc);
+        for word in words.split(' ').filter(|word| !word.is_empty()) {
+            all.push(String::from_str(alloc, word)?)?;
+        }
+        let mut files = MemFiles::new(alloc, NeverFails, NeverFails);
+        let mut out = MemSink::new(alloc, None, NeverFails);
+        let mut err = MemSink::new(alloc, None, NeverFails);
+        let answered = osh_still(alloc, &all, &mut files, &mut out, &mut err);
+        assert_eq!(rt; err.bytes(), line);
+        assert_eq!(rt; out.bytes(), b"".as_slice());
+        assert_eq!(rt; answered.0, status);
+    }
+    Ok(())
+}
+
+// Each call of files fails in turn, then each of their inputs and outputs, of out and of err.
+#[test]
+fn each_failing_call_is_told(rt: HostRuntime) -> Result<(), Fail> {
+    let alloc = rt.alloc();
+    let words = run_words(alloc)?;
+    for (own, inner, printed, told, status) in [
+        (0, 99, 99, 99, 10),
+        (1, 99, 99, 99, 10),
+        (2, 99, 99, 99, 10),
+        (3, 99, 99, 99, 10),
+        (4, 99, 99, 99, 10),
+        (5, 99, 99, 99, 10),
+        (99, 0, 99, 99, 10),
+        (99, 1, 99, 99, 10),
+        (99, 99, 0, 99, 10),
+        (99, 99, 1, 99, 10),
+        (99, 99, 99, 0, 0),
+        (99, 99, 99, 99, 0),
+    ] {
+        let (own, inner) = (vec![in alloc; own]?, vec![in alloc; inner]?);
+        let mut files = MemFiles::new(alloc, FailsAt::new(own), FailsAt::new(inner));
+        put(alloc, &mut files, b"f.osh", COPY)?;
+        put(alloc, &mut files, b"c.cfg", &config(alloc, 1)?)?;
+        put(alloc, &mut files, b"in.txt", b"7,a\n")?;
+        let mut out = MemSink::new(alloc, None, FailsAt::new(vec![in alloc; printed]?));
+        let mut err = MemSink::new(alloc, None, FailsAt::new(vec![in alloc; told]?));
+        let answered = osh_still(alloc, &words, &mut files, &mut out, &mut err);
+        assert_eq!(rt; answered.0, status);
+        assert_eq!(rt;
+            files.look_up(b"out.txt").is_some(),
+            status == 0 || printed < 99
+        );
+    }
+    Ok(())
+}

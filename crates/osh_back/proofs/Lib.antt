@@ -1,0 +1,15 @@
+pub mod PrintedWords
+pub mod MethodsPrinted
+pub mod OptionsFit
+pub mod OptionsStand
+pub mod LinesPrinted
+pub mod OutputsBack
+pub mod InputsBack
+pub mod JoinedBack
+pub mod FlowsBack
+pub mod ReadLists
+pub mod ReadValues
+pub mod ReadKinds
+pub mod ReadOutputs
+pub mod ReadFlows
+pub mod WorkedPrints

@@ -1,0 +1,68 @@
+use osh_print::print_flow;
+use osh_read::read_flow;
+use std::test::Fail;
+
+// Each option of each operator that is read, as it is printed.
+const STAGES: [&str; 22] = [
+    "import -file \"a\" -schema \"record ( a: int32; )\" -delim \";\" -reject",
+    "import -file \"a\" -schema \"record ( a: date; )\" -fixed \"10\"",
+    "export -file \"a\" -delim \"|\"",
+    "export -file \"a\" -fixed \"1,65536\"",
+    "dsread -ds \"a\"",
+    "dswrite -ds \"a\"",
+    "copy [seq]",
+    "modify -keep \"a,b\" -rename \"c=d,e=f\"",
+    "modify -drop \"a\"",
+    "tsort -key \"a desc,b\"",
+    "remdup -key \"a\" -last",
+    "group -key \"a\" -hash -sum \"b=c\" -count \"n\" -min \"b=d\" -max \"b=e\" -first \"b=f\" -last \"b=g\"",
+    "innerjoin -key \"a\"",
+    "leftouterjoin -key \"a\"",
+    "rightouterjoin -key \"a\"",
+    "fullouterjoin -key \"a\"",
+    "merge -key \"a\" -keepbad -reject",
+    "lookup -key \"a\" -missing \"drop\"",
+    "lookup -key \"a\" -missing \"reject\"",
+    "changecapture -key \"a\" -values \"b,c\" -keepcopy",
+    "funnel -sequence",
+    "funnel -sort \"a\"",
+];
+
+// Each method, and each with each flag, as it is printed.
+const METHODS: [&str; 14] = [
+    "[same]",
+    "[rr]",
+    "[entire]",
+    "[hash a,b]",
+    "[modulus a]",
+    "[any]",
+    "[ordered]",
+    "[merge a desc,b]",
+    "[auto set]",
+    "[auto clear]",
+    "[same set]",
+    "[hash a clear]",
+    "[merge a set]",
+    "",
+];
+
+#[test]
+fn options_read_back(rt: HostRuntime) -> Result<(), Fail> {
+    let alloc = rt.alloc();
+    for stage in STAGES.iter() {
+        let flow = read_flow(alloc, stage.as_bytes())?;
+        let text = print_flow(alloc, &flow)?;
+        let printed = text.as_slice();
+        assert!(rt;
+            printed.strip_suffix(b";\n").ok_or("no end")? == stage.as_bytes(),
+            "{stage}"
+        );
+    }
+    for method in METHODS.iter() {
+        let written = format!(in alloc; "copy > k0.v;\ncopy < {method}k0.v;\n")?;
+        let flow = read_flow(alloc, written.as_bytes())?;
+        let text = print_flow(alloc, &flow)?;
+        assert!(rt; text.as_slice() == written.as_bytes(), "{written}");
+    }
+    Ok(())
+}
