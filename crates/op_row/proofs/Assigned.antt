@@ -1,5 +1,5 @@
 -- A value of the shape that can be assigned can be assigned.
-use Rattle.std.proofs.Common.{◌≡◌, ℕ, true, false}
+use Rattle.std.proofs.Common.{◌≡◌, ℕ, true}
 use Rattle.ds_value.specs.declared.kind.Kind.{Kind}
 use Rattle.expr_table.specs.declared.entry.Shape.{Shape}
 use Rattle.expr_table.specs.declared.entry.Shape.TheVariants as shape

@@ -1,5 +1,5 @@
 -- Rows that fit a schema have short texts.
-use Rattle.std.proofs.Common.{◌≡◌, ◌<◌, zero, suc, true, false, Bool, List, [], ◌∷◌, arith}
+use Rattle.std.proofs.Common.{◌≡◌, zero, suc, true, List, [], ◌∷◌, arith}
 use Rattle.std.specs.List.{All, AllByRecursion}
 use Rattle.streams.proofs.Basics.{and_left, and_right}
 use Rattle.ds_value.specs.Canonical.{IsShort}

@@ -1,20 +1,20 @@
 -- What sets make of one row.
-use Rattle.std.proofs.Common.{◌≡◌, ℕ, zero, suc, Bool, true, false, cond, refl, sym, ap, ◌∙◌, List, [], ◌∷◌, length, Ok, Err, map, arith}
-use Rattle.std.specs.Prelude.{Result, if◌then◌else◌}
+use Rattle.std.proofs.Common.{◌≡◌, ℕ, zero, suc, Bool, true, false, cond, refl, ap, ◌∙◌, List, [], ◌∷◌, length, Ok, Err, map, arith}
+use Rattle.std.specs.Prelude.{Result}
 use Rattle.std.specs.List.{AllByRecursion, All}
 use Rattle.streams.specs.Streams.{Out, sends, fails}
-use Rattle.streams.proofs.Basics.{and_left, and_right}
+use Rattle.streams.proofs.Basics.{and_right}
 use Rattle.ds_value.specs.declared.value.Value.{Value}
 use Rattle.ds_schema.specs.declared.schema.Field.{Field}
 use Rattle.ds_schema.specs.Schemas.{row_fits}
 use Rattle.op_base.specs.declared.fault.Fault.{Fault}
 use Rattle.op_base.specs.Columns.{Row, all_columns}
-use Rattle.op_base.specs.RowOperators.{Computed, computed, compute_fails, cell, transform_rule}
+use Rattle.op_base.specs.RowOperators.{cell, transform_rule}
 use Rattle.expr_table.specs.declared.arg.EvalFault.{EvalFault}
 use Rattle.expr_table.specs.Meaning.{◌>>=◌}
 use Rattle.op_row.specs.declared.setting.Set.{Set}
 use Rattle.op_row.specs.ByRow.{made}
-use Rattle.op_row.specs.Judging.{fault_kind, row_fault, set_value, set_values, compute, computed_in}
+use Rattle.op_row.specs.Judging.{fault_kind, row_fault, set_value, set_values, computed_in}
 use Rattle.op_row.specs.Expressed.{with_rejects, targets, input_fields, width_after, sets_rule, AreSets, IsSet}
 use Rattle.op_row.specs.Setting.{MaySet}
 

@@ -1,5 +1,5 @@
 -- The operators by rows that compute, as streams, and what is asked of what they are made with.
-use Rattle.std.specs.Prelude.{◌≡◌, ◌≤◌, ⊤, ℕ, suc, ◌+◌, ◌==◌, ℤ, Bool, true, false, if◌then◌else◌, List, [], ◌∷◌, map, length}
+use Rattle.std.specs.Prelude.{◌≡◌, ◌≤◌, ⊤, ℕ, suc, ◌==◌, ℤ, Bool, true, if◌then◌else◌, List, [], ◌∷◌, map, length}
 use Rattle.std.specs.List.{AllByRecursion}
 use Rattle.ds_value.specs.Kinds.{IsKind}
 use Rattle.ds_schema.specs.declared.schema.Field.{Field}

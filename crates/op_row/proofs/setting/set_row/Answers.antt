@@ -1,4 +1,4 @@
-use Rattle.std.proofs.Common.{ℕ, ap, ap₂, ◌∙◌, sym, inl, inr}
+use Rattle.std.proofs.Common.{ap, ap₂, ◌∙◌, sym, inl, inr}
 use Rattle.op_row.specs.Expressed.{targets}
 use Rattle.op_row.specs.Setting.{put_all}
 use Rattle.op_row.proofs.Placing.{cells_are, ended, length_targets}

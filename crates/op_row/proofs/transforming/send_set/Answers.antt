@@ -5,7 +5,7 @@ use Rattle.op_base.specs.Columns.{Row, all_columns}
 use Rattle.op_base.specs.RowOperators.{cell}
 use Rattle.op_base.specs.Emits.{Adds}
 use Rattle.op_row.specs.Expressed.{AreTargets, input_fields, targets, width_after}
-use Rattle.op_row.proofs.Transformed.{fits_length, values_length, all_may, set_given, failed_given}
+use Rattle.op_row.proofs.Transformed.{fits_length, values_length, all_may, set_given}
 use Rattle.op_row.proofs.transforming.send_set.Goals as goal
 
 pub set_values-requires : goal.set_values-requires
