@@ -1,0 +1,9 @@
+pub mod Standing
+pub mod Means
+pub mod Copies
+pub mod Short
+pub mod OneRow
+pub mod Assigned
+pub mod Transformed
+pub mod Placing
+pub mod Examples

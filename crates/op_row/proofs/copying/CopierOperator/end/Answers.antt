@@ -1,0 +1,5 @@
+use Rattle.op_row.proofs.Standing.{over-end}
+use Rattle.op_row.proofs.copying.CopierOperator.end.Goals as goal
+
+pub returns-clause-stands : goal.returns-clause-stands
+returns-clause-stands c = λ feeds stands. over-end c.requires.feeds feeds c.args._port c.requires.wanted
