@@ -9,8 +9,9 @@ use Rattle.flow_graph.specs.declared.op_kind.OpKind.{OpKind}
 use Rattle.flow_graph.specs.declared.op_kind.OpKind.TheVariants as kind
 use Rattle.flow_graph.specs.declared.route.Route.{Route}
 use Rattle.flow_graph.specs.declared.route.Route.TheVariants as route
-use Rattle.flow_graph.specs.Charts.{Chart, link_at, width_at, links_into, links_from, op_at, into_seq, keys_at, cols_at, first_width, form_at}
+use Rattle.flow_graph.specs.Charts.{Chart, link_at, width_at, links_into, links_from, op_at, into_seq, keys_at, cols_at, parts_of, first_fields, first_width, form_at}
 use Rattle.flow_graph.specs.Forms.{Form, import, dsread, by_row, tsort, remdup, group, join, merge, lookup, changecapture, funnel, funnel_sequence, funnel_sort}
+use Rattle.flow_graph.specs.RowRules.{ExprsFit}
 use Rattle.flow_graph.specs.Runs.{RouteFits}
 use Rattle.flow_graph.specs.Shapes.{DeclaredFits}
 
@@ -111,6 +112,7 @@ pub record OpFits (c : Chart) (o : ℕ) : Type 0 where
   pub keys_differ : AllByRecursion KeysDiffer (keys_at c o)
   pub columns : ColumnsLie c o (op_at c o).kind
   pub few_kept : FewKept (op_at c o).kind (cols_at c o)
+  pub exprs : ExprsFit (first_fields c o) (op_at c o).kind (parts_of c o)
 
 pub record IsShape (c : Chart) : Type 0 where
   pub few_ops : length c.flow.ops < 2 ^ 32

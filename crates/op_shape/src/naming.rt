@@ -2,7 +2,7 @@ ghost use Rattle.std.specs.Prelude.{◌≡◌, ◌<◌, ◌≤◌, ◌^◌, leng
 ghost use Rattle.std.specs.List.{position_or_len};
 ghost use Rattle.std.specs.Str.{bytes_eq};
 ghost use Rattle.ds_schema.specs.Rows.{KeysDiffer};
-ghost use Rattle.flow_shape.specs.Naming.{is_named, has_column, has_columns, has_keys, column, columns, key_columns, NamesDiffer};
+ghost use Rattle.op_shape.specs.Naming.{is_named, has_column, has_columns, has_keys, column, columns, key_columns, NamesDiffer};
 
 use ds_schema::{Field, Key, KeyList};
 use ds_value::{Items, Name, NoMemory};

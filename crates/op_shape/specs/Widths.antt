@@ -3,10 +3,10 @@ use Rattle.std.specs.Prelude.{ℕ, ◌+◌, Bool, false, not, ◌&&◌, ◌||◌
 use Rattle.ds_value.specs.declared.kind.Kind.{Kind}
 use Rattle.ds_value.specs.declared.kind.Kind.TheVariants as kind
 use Rattle.ds_schema.specs.declared.schema.Field.{Field}
-use Rattle.flow_shape.specs.declared.fault.ShapeWhy.{ShapeWhy}
-use Rattle.flow_shape.specs.declared.fault.ShapeWhy.TheVariants as why
-use Rattle.flow_shape.specs.Causes.{cause_if, first_cause}
-use Rattle.flow_shape.specs.Naming.{has_column}
+use Rattle.op_shape.specs.declared.fault.ShapeWhy.{ShapeWhy}
+use Rattle.op_shape.specs.declared.fault.ShapeWhy.TheVariants as why
+use Rattle.op_shape.specs.Causes.{cause_if, first_cause}
+use Rattle.op_shape.specs.Naming.{has_column}
 
 -- the greatest number of canonical bytes of a value
 abbrev pub widest : Kind → ℕ

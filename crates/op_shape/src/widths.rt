@@ -1,5 +1,5 @@
 ghost use Rattle.std.specs.Prelude.{◌≡◌, ◌≤◌, ◌<◌, ◌^◌, ◌+◌, nat_le, length};
-ghost use Rattle.flow_shape.specs.Widths.{widest, widest_row, has_double, is_narrow, fields_cause};
+ghost use Rattle.op_shape.specs.Widths.{widest, widest_row, has_double, is_narrow, fields_cause};
 
 use crate::ShapeWhy;
 use crate::naming::has_column;

@@ -1,8 +1,8 @@
 ghost use Rattle.std.specs.Prelude.{◌≡◌, ◌<◌, ◌^◌, ◌++◌, not, [], ◌∷◌, true, None, length, option_copied, IfOk};
-ghost use Rattle.flow_shape.specs.Causes.{first_cause};
-ghost use Rattle.flow_shape.specs.Naming.{has_keys, key_columns, NamesDiffer};
-ghost use Rattle.flow_shape.specs.Widths.{fields_cause};
-ghost use Rattle.flow_shape.specs.Options.{IsKnown, KeysDistinct, widths_suit, widths_cause, key_cause, option_causes, output_causes, operator_keys, operator_parts};
+ghost use Rattle.op_shape.specs.Causes.{first_cause};
+ghost use Rattle.op_shape.specs.Naming.{has_keys, key_columns, NamesDiffer};
+ghost use Rattle.op_shape.specs.Widths.{fields_cause};
+ghost use Rattle.op_shape.specs.Options.{IsKnown, KeysDistinct, widths_suit, widths_cause, key_cause, option_causes, output_causes, operator_keys, operator_parts};
 
 use crate::ShapeWhy;
 use crate::naming::{has_keys, key_list};
