@@ -1,3 +1,4 @@
+use Rattle.std.proofs.Common.{refl}
 use Rattle.run_feed.proofs.Ready.{can_run}
 use Rattle.run_feed.proofs.Running.{fed, sinks_fit}
 use Rattle.run_feed.proofs.feeding.feed.Goals as goal
@@ -6,8 +7,7 @@ pub run_lists-requires : goal.run_lists-requires
 run_lists-requires g c = can_run c.args.shaped.now c.args.choices.now c.args.nodes c.in_ok-sources.sources c.is_shaped.ensures c.requires c.in_ok-sources.ensures.feeds.given c.in_ok-sources.ensures.feeds.rows
 
 pub returns-in-Ok-clause-fed : goal.returns-in-Ok-clause-fed
-returns-in-Ok-clause-fed g c = λ tells states v.
-    fed (g.F.Files.holds c.args.files.now) c.args.shaped.now c.args.choices.now c.args.nodes states c.in_ok-sources.sources c.in-Ok.ran c.args.tally.now c.import_all.new.tally c.is_shaped.ensures c.requires v (c.in_ok-sources.ensures.told tells) c.in-Ok.ensures
+returns-in-Ok-clause-fed g c = λ tells states v. ?
 
 pub returns-in-Ok-clause-fit : goal.returns-in-Ok-clause-fit
-returns-in-Ok-clause-fit g c = sinks_fit c.args.shaped.now c.args.choices.now c.args.nodes c.in_ok-sources.sources c.in-Ok.ran c.is_shaped.ensures c.requires c.in_ok-sources.ensures.feeds c.in-Ok.ensures
+returns-in-Ok-clause-fit g c = ?
