@@ -1,5 +1,5 @@
 -- The first cause of places.
-use Rattle.std.proofs.Common.{◌≡◌, ◌∷◌, ◌++◌, [], List, Option, Some, None, refl, ap, ◌∙◌}
+use Rattle.std.proofs.Common.{◌≡◌, ◌∷◌, ◌++◌, [], List, Option, Some, None, refl, sym, ap, ◌∙◌}
 use Rattle.op_shape.specs.declared.fault.ShapeWhy.{ShapeWhy}
 use Rattle.op_shape.specs.Causes.{first_cause}
 
@@ -31,3 +31,7 @@ pub none_both : (xs ys : List (Option ShapeWhy)) → first_cause (xs ++ ys) ≡ 
 none_both [] ys e = (refl, e)
 none_both (None ∷ xs) ys e = none_both xs ys e
 none_both (Some why ∷ xs) ys e = cc
+
+-- of several places and two more
+pub first_three : (a : List (Option ShapeWhy)) (b d x : Option ShapeWhy) → x ≡ first_cause a → first_cause (a ++ (b ∷ (d ∷ []))) ≡ or_else x (or_else b d)
+first_three a b d x e = first_both a (b ∷ (d ∷ [])) ∙ (ap (λ o. or_else o (first_cause (b ∷ (d ∷ [])))) (sym e) ∙ ap (or_else x) (first_more b (d ∷ []) ∙ ap (or_else b) (first_one d)))

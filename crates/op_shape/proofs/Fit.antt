@@ -1,6 +1,7 @@
 -- The parts of an operator fit it where nothing is wrong.
-use Rattle.std.proofs.Common.{◌≡◌, ◌≤◌, ◌<◌, ◌++◌, ◌∷◌, [], ℕ, zero, suc, List, Bool, true, false, Option, None, refl, sym, ap, subst, ◌∙◌, arith, length, map, length-map}
+use Rattle.std.proofs.Common.{◌≡◌, ◌≤◌, ◌<◌, ◌++◌, ◌∷◌, [], ℕ, zero, suc, List, Bool, true, false, Option, None, refl, sym, ap, subst, ◌∙◌, arith, length, map}
 use Rattle.std.specs.List.{AllByRecursion}
+use Rattle.std.proofs.lemmas.List.{length-map}
 use Rattle.ds_value.specs.Kinds.{IsKind}
 use Rattle.ds_schema.specs.declared.schema.Field.{Field}
 use Rattle.ds_schema.specs.Schemas.{IsField}
@@ -19,6 +20,7 @@ use Rattle.op_shape.specs.Columns.{columns_cause, kept_columns, modified_fields,
 use Rattle.op_shape.specs.Exprs.{expr_cause, expr_over, is_set, is_test, is_whole, set_causes}
 use Rattle.op_shape.specs.Naming.{has_columns}
 use Rattle.op_shape.specs.Options.{IsKnown, OptionsStand, first_fields, option_causes, output_causes, operator_columns, operator_parts, renames_cause}
+use Rattle.op_shape.specs.Widths.{fields_cause}
 use Rattle.op_shape.proofs.Firsts.{none_both, none_head}
 use Rattle.op_shape.proofs.Held.{held, unheld}
 use Rattle.op_shape.proofs.Keeping.{kept_lie, modified_length}
@@ -131,3 +133,13 @@ kept keep drop rename fields e =
 pub modify_lies : (keep drop : List (List ℕ)) (rename : List (List ℕ × List ℕ)) (fields : List Field)
     → first_cause (option_causes (kind.Modify keep drop rename) (fields ∷ []) ++ output_causes (kind.Modify keep drop rename) (fields ∷ [])) ≡ None → Lies (kept_columns keep drop fields) (all_columns (length fields))
 modify_lies keep drop rename fields e = kept_lie keep drop fields (kept keep drop rename fields e).keep_there
+
+-- ---- the fields of an output
+
+pub set_sound : (set : List SetSpec) (reject : Bool) (fields : List Field)
+    → first_cause (option_causes (kind.Transform set reject) (fields ∷ []) ++ output_causes (kind.Transform set reject) (fields ∷ [])) ≡ None → fields_cause (set_fields fields set) ≡ None
+set_sound set reject fields e = (none_head (fields_cause (set_fields fields set)) [] (none_head (sets_cause set) _ (none_both (set_causes fields set) _ e).1).1).0
+
+pub set_few : (set : List SetSpec) (reject : Bool) (fields : List Field)
+    → first_cause (option_causes (kind.Transform set reject) (fields ∷ []) ++ output_causes (kind.Transform set reject) (fields ∷ [])) ≡ None → length (set_fields fields set) ≤ 256
+set_few set reject fields e = (narrow (set_fields fields set) (set_sound set reject fields e)).1

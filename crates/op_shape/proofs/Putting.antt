@@ -1,6 +1,7 @@
 -- Fields that are set stand in their places or behind the last, and keep the columns of the others.
-use Rattle.std.proofs.Common.{◌≡◌, ◌≤◌, ◌<◌, ◌+◌, ◌++◌, ◌∷◌, [], ◌||◌, ◌==◌, not, ℕ, suc, List, Bool, true, false, cond, refl, sym, ap, subst, ◌∙◌, arith, length, set, get_or, length-set, length-append, inl, inr}
-use Rattle.std.specs.List.{AllByRecursion}
+use Rattle.std.proofs.Common.{◌≡◌, ◌≤◌, ◌<◌, ◌+◌, ◌++◌, ◌∷◌, [], ◌||◌, ◌==◌, not, ℕ, suc, List, Bool, true, false, cond, refl, sym, ap, subst, ◌∙◌, arith, length, set, get_or, drop, length-set, length-append, inl, inr}
+use Rattle.std.specs.List.{AllByRecursion, list_any}
+use Rattle.std.proofs.lemmas.List.{drop_more}
 use Rattle.std.specs.Str.{bytes_eq}
 use Rattle.std.proofs.lemmas.Bool.{and_from, eq-eqb, ne_eqb, or_parts, cases_lt}
 use Rattle.std.proofs.lemmas.Slice.Eq.{bytes_eq-Decides}
@@ -146,3 +147,18 @@ pub width_is : (set : List SetSpec) (fields : List Field) → width_after (lengt
 width_is [] fields = refl
 width_is (s ∷ set) fields =
     sym (ap (λ n. width_after n (set_columns (put_field s.field fields) set)) (next_width s set fields)) ∙ width_is set (put_field s.field fields)
+
+-- ---- sets gone through from the first on
+
+among_is : (set : List SetSpec) (name : List ℕ) → is_among (set_names set) name ≡ list_any (λ (s : SetSpec). bytes_eq s.field.name name) set
+among_is [] name = refl
+among_is (s ∷ set) name = ap (λ b. bytes_eq s.field.name name || b) (among_is set name)
+
+pub twice_next : (set : List SetSpec) (i : ℕ) (s : SetSpec) → i < length set → s ≡ get_or set i s
+    → stand_twice (set_names (drop i set)) ≡ (list_any (λ (t : SetSpec). bytes_eq t.field.name s.field.name) (drop (i + 1) set) || stand_twice (set_names (drop (i + 1) set)))
+twice_next set i s h e =
+    ap (λ (xs : List SetSpec). stand_twice (set_names xs)) (drop_more set i s h ∙ ap (λ (x : SetSpec). x ∷ drop (i + 1) set) (sym e))
+    ∙ ap (λ b. b || stand_twice (set_names (drop (i + 1) set))) (among_is (drop (i + 1) set) s.field.name)
+
+pub put_next : (fields : List Field) (set : List SetSpec) (i : ℕ) (s : SetSpec) → i < length set → s ≡ get_or set i s → set_fields fields (drop i set) ≡ set_fields (put_field s.field fields) (drop (i + 1) set)
+put_next fields set i s h e = ap (set_fields fields) (drop_more set i s h ∙ ap (λ (x : SetSpec). x ∷ drop (i + 1) set) (sym e))

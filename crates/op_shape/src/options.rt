@@ -142,7 +142,7 @@ pub fn own_cause(
     first: Option<&Schema>,
 ) -> Result<Option<ShapeWhy>, NoMemory>
     requires known { IsKnown kind.now }
-    requires fed { IsFed kind.now (option_copied first.entry) }
+    requires fed { IsFed kind.now (option_copied first) }
     ensures { IfOk result (λ cause. cause ≡ first_cause (option_causes kind.now (fields_in (option_copied first.entry) ∷ []) ++ output_causes kind.now (fields_in (option_copied first.entry) ∷ []))) }
 {
     match first {

@@ -139,8 +139,8 @@ pub fn output_schema(
     out: u32,
 ) -> Result<Schema, NoMemory>
     requires known { IsKnown kind.now }
-    requires fed { IsFed kind.now (option_copied first.entry) }
-    requires sound { first_cause (option_causes kind.now (fields_in (option_copied first.entry) ∷ []) ++ output_causes kind.now (fields_in (option_copied first.entry) ∷ [])) ≡ None }
+    requires fed { IsFed kind.now (option_copied first) }
+    requires sound { first_cause (option_causes kind.now (fields_in (option_copied first) ∷ []) ++ output_causes kind.now (fields_in (option_copied first) ∷ [])) ≡ None }
     requires stand { OptionsStand kind.now }
     ensures { IfOk result (λ schema. schema ≡ output_fields kind.now (fields_in (option_copied first.entry) ∷ []) out) }
 {

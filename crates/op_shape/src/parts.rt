@@ -111,8 +111,8 @@ pub fn operator_parts(
     first: Option<&Schema>,
 ) -> Result<OpParts, NoMemory>
     requires known { IsKnown kind.now }
-    requires fed { IsFed kind.now (option_copied first.entry) }
-    requires sound { first_cause (option_causes kind.now (fields_in (option_copied first.entry) ∷ []) ++ output_causes kind.now (fields_in (option_copied first.entry) ∷ [])) ≡ None }
+    requires fed { IsFed kind.now (option_copied first) }
+    requires sound { first_cause (option_causes kind.now (fields_in (option_copied first) ∷ []) ++ output_causes kind.now (fields_in (option_copied first) ∷ [])) ≡ None }
     requires differ { KeysDistinct kind.now }
     ensures { IfOk result (λ parts. parts ≡ operator_parts kind.now (fields_in (option_copied first.entry) ∷ [])) }
 {

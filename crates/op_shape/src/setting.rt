@@ -1,8 +1,11 @@
 //! The fields of a transform: present ones replaced in their place, new ones appended.
 
 ghost use Rattle.std.specs.Prelude.{◌≡◌, ◌<◌, ◌^◌, length, IfOk, OnOk};
+ghost use Rattle.std.specs.List.{list_any};
+ghost use Rattle.std.specs.Str.{bytes_eq};
+ghost use Rattle.flow_graph.specs.declared.op_kind.SetSpec.{SetSpec as SetOf};
 ghost use Rattle.op_shape.specs.Naming.{columns};
-ghost use Rattle.op_shape.specs.Columns.{put_field, set_fields, set_names, set_columns, is_among, stand_twice, sets_cause};
+ghost use Rattle.op_shape.specs.Columns.{put_field, set_fields, set_names, set_columns, stand_twice, sets_cause};
 
 use crate::ShapeWhy;
 use crate::naming::{column, place_of};
@@ -71,7 +74,7 @@ fn columns_in(alloc: Global, made: &[Field], sets: &[SetSpec]) -> Result<Items<u
 }
 
 fn is_set(sets: &[SetSpec], name: &Name) -> bool
-    ensures { result ≡ is_among (set_names sets.now) name.now }
+    ensures { result ≡ list_any (λ (s : SetOf). bytes_eq s.field.name name.now) sets.now }
 {
     sets.iter().any(|set| set.field.name.as_slice() == name.as_slice())
 }
