@@ -22,6 +22,7 @@ fn cases(alloc: Global) -> Result<Vec<i64>, Fail>
 
 /// What a switch of the three cases emits for the three rows.
 fn switched(alloc: Global, schema: &Schema, text: &str, reject: bool) -> Result<Emit, Fail> {
+    let cases = cases(alloc)?;
     let on = typed(alloc, schema, text)?;
     let (Shape::Num, 0) = shape_of(&on) else {
         return Err(Fail::from("no whole number"));
@@ -30,7 +31,7 @@ fn switched(alloc: Global, schema: &Schema, text: &str, reject: bool) -> Result<
     if !all_fit(schema, rows.as_slice()) {
         return Err(Fail::from("other rows"));
     }
-    let mut op = switcher(alloc, on, cases(alloc)?, reject)?;
+    let mut op = switcher(alloc, on, cases, reject)?;
     Ok(run_list(alloc, &mut op, rows)?)
 }
 

@@ -43,6 +43,7 @@ fn set(alloc: Global, schema: &Schema, plan: Plan) -> Result<Set, Fail>
     Ok(Set { col, field, expr })
 }
 
+#[tactic(auto, using(crate::proofs::Pushed::all_push))]
 fn sets(alloc: Global, schema: &Schema, plans: &[Plan]) -> Result<Vec<Set>, Fail>
     ensures { IfOk result (λ sets. AllByRecursion (IsSet schema.now) sets.items) }
 {
