@@ -2,26 +2,30 @@ ghost use Rattle.std.specs.Prelude.{◌≡◌, ◌<◌, ◌≤◌, ◌^◌, ℕ,
 ghost use Rattle.std.specs.Str.{bytes_eq};
 ghost use Rattle.flow_graph.specs.Charts.{all_links, no_link};
 ghost use Rattle.flow_shape.specs.Links.{AreWithin};
+ghost use Rattle.flow_shape.specs.Lowest.{HasNone};
+ghost use Rattle.flow_shape.specs.Ports.{WrongPorts};
 ghost use Rattle.flow_shape.specs.Refusals.{HasOnlyKnown, chart_of, Fits, all_ops, parts_at, written_at, stored_for, stored_at};
 ghost use Rattle.flow_shape.specs.Spelled.{HasDistinctKeys, HasDistinctMethods};
 
-use crate::inputs::first_fields;
+use crate::inputs::first_schema;
 use crate::methods::written_route;
-use crate::options::operator_parts;
 use crate::reading::{fields_at, link_at, op_at};
 use ds_schema::Schema;
 use ds_value::{Copied, Name, NoMemory};
 use flow_graph::{Flow, OpKind, OpParts, Route, Stored};
+use op_shape::operator_parts;
 use std::alloc::Global;
 
 fn parts_at(alloc: Global, flow: &Flow, schemas: &[Schema], op: u32) -> Result<OpParts, NoMemory>
     requires op { op < length flow.now.ops }
     requires known { HasOnlyKnown flow.now }
+    requires ports { HasNone (length flow.now.ops) (WrongPorts flow.now) }
+    requires each_link { length schemas.now ≡ length flow.now.links }
     requires differ { HasDistinctKeys flow.now }
     requires fit { Fits (chart_of flow.now schemas.now) op }
     ensures { IfOk result (λ parts. parts ≡ parts_at (chart_of flow.now schemas.now) op) }
 {
-    let first = first_fields(flow, schemas, op);
+    let first = first_schema(flow, schemas, op);
     operator_parts(alloc, &op_at(flow, op).kind, first)
 }
 
@@ -29,6 +33,8 @@ fn parts_at(alloc: Global, flow: &Flow, schemas: &[Schema], op: u32) -> Result<O
 pub fn all_parts(alloc: Global, flow: &Flow, schemas: &[Schema]) -> Result<Vec<OpParts>, NoMemory>
     requires few { length flow.now.ops < 2 ^ 32 }
     requires known { HasOnlyKnown flow.now }
+    requires ports { HasNone (length flow.now.ops) (WrongPorts flow.now) }
+    requires each_link { length schemas.now ≡ length flow.now.links }
     requires differ { HasDistinctKeys flow.now }
     requires fit { (o : ℕ) → o < length flow.now.ops → Fits (chart_of flow.now schemas.now) o }
     ensures { IfOk result (λ parts. parts.items ≡ map (parts_at (chart_of flow.now schemas.now)) (all_ops (chart_of flow.now schemas.now))) }
