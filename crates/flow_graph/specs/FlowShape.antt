@@ -3,6 +3,7 @@ use Rattle.std.specs.Prelude.{◌≡◌, ℕ, ◌<◌, ◌≤◌, ◌^◌, Bool,
 use Rattle.std.specs.List.{AllByRecursion, range_with_len}
 use Rattle.std.specs.List.Sorted.{IsPermutation}
 use Rattle.ds_schema.specs.Rows.{cols, KeysDiffer}
+use Rattle.ds_schema.specs.Schemas.{IsSchema}
 use Rattle.op_base.specs.Columns.{IsIn, Lies, all_columns}
 use Rattle.op_base.specs.Keyed.{get_keys}
 use Rattle.flow_graph.specs.declared.op_kind.OpKind.{OpKind}
@@ -73,6 +74,7 @@ FormFills f width = ⊤
 pub record LinkFits (c : Chart) (l : ℕ) : Type 0 where
   pub from : (link_at c l).from < length c.flow.ops
   pub to : (link_at c l).to < length c.flow.ops
+  pub schema : IsSchema (get_or c.schemas l [])
   pub width : width_at c l ≤ 256
   pub out : FormHasPort (form_at c (link_at c l).from) (link_at c l).out
   pub filled : FormFills (form_at c (link_at c l).from) (width_at c l)
