@@ -1,5 +1,6 @@
-ghost use Rattle.std.specs.Prelude.{◌≡◌, ◌<◌, ◌≤◌, ◌^◌, ℕ, [], map, length, get_or, find, option_copied, IfOk};
+ghost use Rattle.std.specs.Prelude.{◌≡◌, ◌<◌, ◌^◌, ℕ, [], map, length, get_or, find, option_copied, IfOk};
 ghost use Rattle.std.specs.Str.{bytes_eq};
+ghost use Rattle.ds_schema.specs.Schemas.{IsSchema};
 ghost use Rattle.flow_graph.specs.Charts.{all_links, no_link};
 ghost use Rattle.flow_shape.specs.Links.{AreWithin};
 ghost use Rattle.flow_shape.specs.Lowest.{HasNone};
@@ -53,10 +54,11 @@ fn route_at(
     link: usize,
 ) -> Result<Option<Route>, NoMemory>
     requires link { link < length flow.now.links }
+    requires each_link { length schemas.now ≡ length flow.now.links }
     requires differ { HasDistinctMethods flow.now }
     requires fit { Fits (chart_of flow.now schemas.now) (get_or flow.now.links link no_link).to }
     ensures route { IfOk result (λ route. route ≡ written_at (chart_of flow.now schemas.now) link) }
-    ensures few { length (get_or schemas.now link []) ≤ 256 }
+    ensures schema { IsSchema (get_or schemas.now link []) }
 {
     let method = &link_at(flow, link).method;
     written_route(alloc, fields_at(schemas, link), method)
@@ -69,10 +71,11 @@ pub fn all_routes(
     schemas: &[Schema],
 ) -> Result<Vec<Option<Route>>, NoMemory>
     requires within { AreWithin (length flow.now.ops) flow.now.links }
+    requires each_link { length schemas.now ≡ length flow.now.links }
     requires differ { HasDistinctMethods flow.now }
     requires fit { (o : ℕ) → o < length flow.now.ops → Fits (chart_of flow.now schemas.now) o }
     ensures routes { IfOk result (λ routes. routes.items ≡ map (written_at (chart_of flow.now schemas.now)) (all_links (chart_of flow.now schemas.now))) }
-    ensures few { IfOk result (λ _. (l : ℕ) → l < length flow.now.links → length (get_or schemas.now l []) ≤ 256) }
+    ensures schemas { IfOk result (λ _. (l : ℕ) → l < length flow.now.links → IsSchema (get_or schemas.now l [])) }
 {
     let mut routes = Vec::new(alloc);
     for link in 0..flow.links.as_slice().len() {

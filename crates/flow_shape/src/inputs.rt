@@ -1,7 +1,6 @@
-ghost use Rattle.std.specs.Prelude.{◌≡◌, ◌<◌, ◌≤◌, ◌==◌, ◌^◌, [], cond, map, length, get_or, position, option_copied, None, Some, IfSome};
+ghost use Rattle.std.specs.Prelude.{◌≡◌, ◌<◌, ◌==◌, [], cond, map, length, get_or, position, slice_get, option_copied, None, Some, IfSome};
 ghost use Rattle.flow_graph.specs.Charts.{no_op, no_link, is_seq, links_into};
 ghost use Rattle.op_shape.specs.Causes.{first_cause};
-ghost use Rattle.op_shape.specs.Options.{fields_in, first_fields};
 ghost use Rattle.flow_shape.specs.Refusals.{chart_of, inputs_at, input_cause};
 
 use crate::methods::method_cause;
@@ -20,7 +19,8 @@ pub fn first_into(links: &[LinkSpec], op: u32) -> Option<usize>
 
 /// The schema of input 0; none where there is no input.
 pub fn first_schema<'a>(flow: &Flow, schemas: &'a [Schema], op: u32) -> Option<&'a Schema>
-    ensures { fields_in (option_copied result) ≡ first_fields (inputs_at (chart_of flow.now schemas.now) op) }
+    requires { length schemas.now ≡ length flow.now.links }
+    ensures { option_copied result ≡ slice_get (inputs_at (chart_of flow.now schemas.now) op) 0 }
 {
     match first_into(flow.links.as_slice(), op) {
         Some(link) => schemas.get(link),

@@ -6,13 +6,13 @@ ghost use Rattle.flow_shape.specs.Ports.{WrongPorts};
 ghost use Rattle.flow_shape.specs.Refusals.{HasOnlyKnown, chart_of, AllFit, IsShapeOf, IsFirst};
 ghost use Rattle.flow_shape.specs.Spelled.{HasSoundOptions, IsJoined};
 
+use crate::ShapeFault;
 use crate::cycle::lowest_on_cycle;
 use crate::files::lowest_clash;
 use crate::finding::{all_parts, all_routes, all_stored};
 use crate::ports::lowest_wrong_ports;
 use crate::sequence::order;
 use crate::typing::typed;
-use crate::ShapeFault;
 use ds_schema::Schema;
 use ds_value::{Items, NoMemory};
 use flow_graph::{Flow, Shaped, Stored};
