@@ -1,6 +1,7 @@
 -- What a link's producer gives on it.
-use Rattle.std.proofs.Common.{◌≡◌, ◌<◌, ◌==◌, ◌∷◌, [], ℕ, List, Bool, true, false, Option, Some, refl, sym, ap, subst, ◌∙◌, length, length-map, get_or}
+use Rattle.std.proofs.Common.{◌≡◌, ◌<◌, ◌==◌, ◌∷◌, [], ℕ, List, Bool, true, false, Option, Some, refl, sym, ap, subst, ◌∙◌, length, get_or}
 use Rattle.std.specs.List.{slice_get}
+use Rattle.std.proofs.lemmas.List.{length-map}
 use Rattle.ds_schema.specs.declared.schema.Field.{Field}
 use Rattle.flow_graph.specs.Charts.{no_link, no_op}
 use Rattle.flow_graph.specs.declared.flow.Flow.{Flow}

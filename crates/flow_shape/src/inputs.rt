@@ -23,7 +23,7 @@ pub fn first_schema<'a>(flow: &Flow, schemas: &'a [Schema], op: u32) -> Option<&
     ensures { option_copied result ≡ slice_get (inputs_at (chart_of flow.now schemas.now) op) 0 }
 {
     match first_into(flow.links.as_slice(), op) {
-        Some(link) => schemas.get(link),
+        Some(link) => Some(&schemas[link]),
         None => None,
     }
 }

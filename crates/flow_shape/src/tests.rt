@@ -152,10 +152,10 @@ struct Row<'a> {
     one_written: bool,
 }
 
-fn field(alloc: Global, record: &[u8]) -> Result<Field, Fail>
+fn field(alloc: Global, written: &[u8]) -> Result<Field, Fail>
     ensures { IfOk result IsField }
 {
-    let schema = read_schema(alloc, record)?;
+    let schema = read_schema(alloc, written)?;
     Ok(schema.as_slice()[0].copied()?)
 }
 
@@ -212,8 +212,8 @@ fn renames(alloc: Global, pair: Option<(&[u8], &[u8])>) -> Result<Items<(Name, N
     let mut pairs = Items::new(alloc);
     match pair {
         None => Ok(pairs),
-        Some((record, old)) => {
-            let new = field(alloc, record)?;
+        Some((written, old)) => {
+            let new = field(alloc, written)?;
             pairs.push((new.name, name(alloc, old)?))?;
             Ok(pairs)
         }
