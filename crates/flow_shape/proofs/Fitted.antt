@@ -15,10 +15,11 @@ use Rattle.flow_graph.specs.RowRules.{ExprsFit}
 use Rattle.op_shape.specs.Causes.{first_cause}
 use Rattle.op_shape.specs.Columns.{set_columns, set_fields, kept_columns}
 use Rattle.op_shape.specs.Options.{IsKnown, OptionsStand, first_fields, option_causes, output_causes, output_fields, operator_columns}
+use Rattle.op_shape.proofs.Fit.{FewCases, kept, modify_lies}
+use Rattle.op_shape.proofs.Putting.{sets_lie}
 use Rattle.op_shape.proofs.Same.{output_same}
 use Rattle.flow_shape.specs.Ports.{may_have_in, may_have_out, with_reject}
 use Rattle.flow_shape.specs.Refusals.{chart_of, inputs_at, given_on, Fits}
-use Rattle.flow_shape.proofs.Awaited.{FewCases, sets_lie, kept_lie, few_columns}
 
 -- one input at least
 some_input : (n : ℕ) → (n == 1) ≡ true → 0 < n
@@ -58,8 +59,8 @@ columns_fit c o (kind.Import file schema delim fixed reject) fields n h stand no
 columns_fit c o (kind.Export file delim fixed) fields n h stand none e fed w given = none_lie (cols_at c o) _ e
 columns_fit c o kind.Copy fields n h stand none e fed w given = none_lie (cols_at c o) _ e
 columns_fit c o (kind.Filter test reject) fields n h stand none e fed w given = none_lie (cols_at c o) _ e
-columns_fit c o (kind.Transform set reject) fields n h stand none e fed w given = λ l i z. both_lie (cols_at c o) (set_columns fields set) (length (set_fields fields set)) (width_at c l) e (given l i z) (sets_lie fields set reject stand none)
-columns_fit c o (kind.Modify keep drop rename) fields n h stand none e fed w given = both_lie (cols_at c o) (kept_columns keep drop fields) (length fields) (first_width c o) e (sym (w (some_input n fed))) (kept_lie fields keep drop rename none)
+columns_fit c o (kind.Transform set reject) fields n h stand none e fed w given = λ l i z. both_lie (cols_at c o) (set_columns fields set) (length (set_fields fields set)) (width_at c l) e (given l i z) (sets_lie set fields)
+columns_fit c o (kind.Modify keep drop rename) fields n h stand none e fed w given = both_lie (cols_at c o) (kept_columns keep drop fields) (length fields) (first_width c o) e (sym (w (some_input n fed))) (modify_lies keep drop rename fields none)
 columns_fit c o (kind.Switch on cases reject) fields n h stand none e fed w given = none_lie (cols_at c o) _ e
 columns_fit c o (kind.Tsort key) fields n h stand none e fed w given = none_lie (cols_at c o) _ e
 columns_fit c o (kind.Remdup key last) fields n h stand none e fed w given = none_lie (cols_at c o) _ e
@@ -71,7 +72,7 @@ few_kept (kind.Export file delim fixed) fields cs h none e = tt
 few_kept kind.Copy fields cs h none e = tt
 few_kept (kind.Filter test reject) fields cs h none e = tt
 few_kept (kind.Transform set reject) fields cs h none e = tt
-few_kept (kind.Modify keep drop rename) fields cs h none e = let few = few_columns fields keep drop rename none in let len = ap length e in omega (arith, few, len)
+few_kept (kind.Modify keep drop rename) fields cs h none e = let few = (kept keep drop rename fields none).few in let len = ap length e in omega (arith, few, len)
 few_kept (kind.Switch on cases reject) fields cs h none e = tt
 few_kept (kind.Tsort key) fields cs h none e = tt
 few_kept (kind.Remdup key last) fields cs h none e = tt

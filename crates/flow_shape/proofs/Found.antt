@@ -24,9 +24,9 @@ use Rattle.flow_shape.specs.Ports.{WrongPorts, may_have_in, count_in, count_out}
 use Rattle.flow_shape.specs.Refusals.{HasOnlyKnown, chart_of, inputs_at, AllFit, IsShapeOf, parts_at, written_at, stored_at}
 use Rattle.flow_shape.specs.Spelled.{IsJoined}
 use Rattle.flow_shape.proofs.Causing.{known_at, all_at}
+use Rattle.op_shape.proofs.Fit.{exprs_fit}
 use Rattle.op_shape.proofs.Held.{operator_keys_lie, operator_keys_differ}
 use Rattle.op_shape.proofs.Same.{parts_same}
-use Rattle.flow_shape.proofs.Awaited.{exprs_fit}
 use Rattle.flow_shape.proofs.Fitted.{exprs_over, few_cases, columns_fit, few_kept, leaves, given_fields}
 use Rattle.flow_shape.proofs.Given.{ends, has_ports}
 use Rattle.flow_shape.proofs.Holding.{route_fits, form_ports, form_out, form_fills, first_of, few_links}

@@ -1,4 +1,3 @@
-pub mod Awaited
 pub mod Causing
 pub mod Entries
 mod Examples
