@@ -10,8 +10,8 @@ use Rattle.flow_graph.specs.declared.op_kind.OpKind.TheVariants as kind
 use Rattle.op_shape.specs.declared.fault.ShapeWhy.TheVariants as why
 use Rattle.op_shape.specs.Causes.{cause_if, first_cause}
 use Rattle.op_shape.specs.Options.{option_causes, output_causes, widths_cause}
+use Rattle.op_shape.proofs.Firsts.{none_both}
 use Rattle.flow_shape.specs.Refusals.{Fits, input_cause, inputs_at}
-use Rattle.flow_shape.proofs.Sound.{none_both}
 use Rattle.osh_ends.specs.FlowFiles.{fields_of, form, input_of}
 
 -- the form of an operator's file suits the columns of its rows
