@@ -33,7 +33,7 @@ fn compare(
 }
 
 // Flows and what is printed of their verdicts.
-const VERDICTS: [(&[u8], &[u8], u8); 14] = [
+const VERDICTS: [(&[u8], &[u8], u8); 19] = [
     (
         b"import -file \"in.txt\" -schema 'record ( id: int32; )' | [any] copy [seq] | [any] export -file \"out.txt\"",
         b"verdict accepted\nlink 0 agree() solo sort()\nlink 1 agree() solo sort()\nsink 2 exact\nstatus 0\n",
@@ -104,6 +104,31 @@ const VERDICTS: [(&[u8], &[u8], u8); 14] = [
         b"verdict accepted\nlink 0 agree() solo sort()\nlink 1 agree() solo sort()\nsink 2 exact\nstatus 0\n",
         0,
     ),
+    (
+        b"import -file \"in.txt\" -schema 'record ( id: int32; )' | filter -where 'id > 1' -reject [seq] > a.v > b.v; export -file \"out.txt\" < a.v; export -file \"bad.txt\" < b.v",
+        b"verdict accepted\nlink 0 agree() solo sort()\nlink 1 agree() solo sort()\nlink 2 agree() solo sort()\nsink 2 exact\nsink 3 exact\nstatus 0\n",
+        0,
+    ),
+    (
+        b"import -file \"in.txt\" -schema 'record ( id: int32; )' | switch -on 'id % 3' -cases '0,1' -reject [seq] > a.v > b.v > c.v; export -file \"a.txt\" < a.v; export -file \"b.txt\" < b.v; export -file \"c.txt\" < c.v",
+        b"verdict accepted\nlink 0 agree() solo sort()\nlink 1 agree() solo sort()\nlink 2 agree() solo sort()\nlink 3 agree() solo sort()\nsink 2 exact\nsink 3 exact\nsink 4 exact\nstatus 0\n",
+        0,
+    ),
+    (
+        b"import -file \"in.txt\" -schema 'record ( a: int32; b: int32; )' | [hash a] transform -set 'b: int32 = a + 1' -set 'c: int32 = b' | [any] export -file \"out.txt\"",
+        b"verdict accepted\nlink 0 agree(a) hash(a) sort()\nlink 1 agree(a) solo sort()\nsink 2 by a\nstatus 0\n",
+        0,
+    ),
+    (
+        b"import -file \"in.txt\" -schema 'record ( a: int32; b: int32; )' | [hash a] transform -set 'a: int32 = b' | [any] export -file \"out.txt\"",
+        b"verdict accepted\nlink 0 agree(a) hash(a) sort()\nlink 1 bag solo sort()\nsink 2 bag\nstatus 0\n",
+        0,
+    ),
+    (
+        b"import -file \"in.txt\" -schema 'record ( a: int32; b: int32; )' | [hash a] modify -rename 'x=a' | [any] export -file \"out.txt\"",
+        b"verdict accepted\nlink 0 agree(a) hash(a) sort()\nlink 1 agree(x) solo sort()\nsink 2 by x\nstatus 0\n",
+        0,
+    ),
 ];
 
 #[test]
@@ -115,7 +140,7 @@ fn flows_have_their_verdicts(rt: HostRuntime) -> Result<(), Fail> {
 }
 
 // Texts that are no flow, flows without a shape, and flows that aren't built.
-const STOPS: [(&[u8], u8, &[u8]); 6] = [
+const STOPS: [(&[u8], u8, &[u8]); 8] = [
     (b"", 2, b"osh: flow 0 Syntax\n"),
     (b"import", 2, b"osh: flow 0 MissingOption\n"),
     (b"import -file \"in", 2, b"osh: flow 13 Token\n"),
@@ -133,6 +158,16 @@ const STOPS: [(&[u8], u8, &[u8]); 6] = [
         b"nosort; import -file \"in.txt\" -schema 'record ( id: int32; )' | export -file \"out.txt\"",
         8,
         b"osh: unbuilt\n",
+    ),
+    (
+        b"import -file \"in.txt\" -schema 'record ( id: int32; )' | group -count n [seq] | export -file \"out.txt\"",
+        8,
+        b"osh: unbuilt\n",
+    ),
+    (
+        b"import -file \"in.txt\" -schema 'record ( a: int32; b: int32; )' | transform -set 'q: int32 = a + nosuch' [seq] | export -file \"out.txt\"",
+        4,
+        b"osh: shape Expression op 1\n",
     ),
 ];
 
