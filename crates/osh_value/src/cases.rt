@@ -37,11 +37,7 @@ fn number_up_to(high: u64, bytes: &[u8]) -> Option<u64>
 fn greatest_case(minus: bool) -> u64
     ensures { result ≡ greatest_case minus }
 {
-    if minus {
-        1 << 63
-    } else {
-        (1 << 63) - 1
-    }
+    if minus { 1 << 63 } else { (1 << 63) - 1 }
 }
 
 fn signed_case(minus: bool, number: u64) -> i64

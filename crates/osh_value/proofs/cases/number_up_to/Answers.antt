@@ -8,4 +8,4 @@ returns-then-from-more c =
     let digit : is_digit (get_or c.args.bytes.now c.loop-byte.byte-index 0) ≡ true = sym c.is_digit.ensures ∙ c.if-not-is_digit.false in
     let above : c.args.high < c.loop-byte.value * 10 + (get_or c.args.bytes.now c.loop-byte.byte-index 0 - 48) = omega (arith, c.from.ensures, c.from-in-loop-byte.ensures, c.from-in-loop-byte-2.ensures) in
     let large = passes c.loop-byte.value c.args.high c.loop-byte.byte-index c.args.bytes.now (omega arith) digit above c.loop-byte.invariant.value in
-    rw (too_large 0 c.args.high c.args.bytes.now large) refl
+    rw (too_large 0 c.args.high c.args.bytes.now large) (record { number = refl; bound = tt })
