@@ -93,6 +93,14 @@ pub read_expression : (text kept : List ℕ) → kept_expression text ≡ Some k
 unfolding kept_expression
 read_expression text kept h = read_by text kept (expr_of text) refl h
 
+spanned_by : (text kept : List ℕ) (r : Result Expr ℕ) → (if is_ok r then Some (spanned text (lexed_text Inner text).lexemes) else None) ≡ Some kept → kept ≡ spanned text (lexed_text Inner text).lexemes
+spanned_by text kept (Ok x) h = let k : spanned text (lexed_text Inner text).lexemes ≡ kept = cc in sym k
+spanned_by text kept (Err at) h = absurd cc
+
+pub kept_spanned : (text kept : List ℕ) → kept_expression text ≡ Some kept → kept ≡ spanned text (lexed_text Inner text).lexemes
+unfolding kept_expression
+kept_spanned text kept h = spanned_by text kept (expr_of text) h
+
 -- the tokens of an expression behind other bytes
 pub lexes_expression : (front kept : List ℕ) → IsExpression kept → (us : List Lexeme) × Lexes Inner front kept us
 lexes_expression front kept h =
