@@ -9,7 +9,7 @@ use Rattle.flow_graph.specs.declared.flow.LinkSpec.{LinkSpec}
 use Rattle.flow_graph.specs.declared.flow.OpSpec.{OpSpec}
 use Rattle.flow_graph.specs.declared.flow.Flow.{Flow}
 use Rattle.flow_shape.specs.Methods.{MethodDiffers}
-use Rattle.flow_shape.specs.Options.{KeysDistinct}
+use Rattle.op_shape.specs.Options.{KeysDistinct}
 use Rattle.flow_shape.specs.Spelled.{IsJoined}
 use Rattle.osh_read.specs.declared.stage.Redirect.{Redirect}
 use Rattle.osh_read.specs.declared.stage.Redirect.TheVariants as redirect

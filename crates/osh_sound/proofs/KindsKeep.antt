@@ -28,8 +28,8 @@ use Rattle.ds_text.specs.Forms.{IsDelimiter, IsWidth}
 use Rattle.flow_graph.specs.declared.flow.Mark.{Mark}
 use Rattle.flow_graph.specs.declared.flow.Mark.TheVariants as mark
 use Rattle.flow_graph.specs.declared.op_kind.OpKind.{OpKind}
-use Rattle.flow_shape.specs.Naming.{NamesDiffer}
-use Rattle.flow_shape.specs.Options.{KeysDistinct}
+use Rattle.op_shape.specs.Naming.{NamesDiffer}
+use Rattle.op_shape.specs.Options.{KeysDistinct}
 use Rattle.osh_table.specs.declared.operator.OpName.{OpName}
 use Rattle.osh_table.specs.declared.operator.OpName.TheVariants as op
 use Rattle.osh_table.specs.declared.option.OptName.{OptName}
