@@ -29,8 +29,8 @@ small_numbers : list_all (λ k. hash_number 4 (Int (pos k) ∷ []) == 3 * k % 4)
 unfolding fnv
 small_numbers = refl
 
-row : List Value
-row = Int (pos 7) ∷ (Text (codes "ab") ∷ (Null ∷ []))
+entry : List Value
+entry = Int (pos 7) ∷ (Text (codes "ab") ∷ (Null ∷ []))
 
 ids : List ℕ
 ids = place_number (Hash (0 ∷ [])) (Int (pos 1) ∷ []) 4 ∷ (place_number (Hash (0 ∷ [])) (Int (pos 2) ∷ []) 4 ∷ (place_number (Hash (0 ∷ [])) (Int (pos 3) ∷ []) 4 ∷ (place_number (Hash (0 ∷ [])) (Int (pos 4) ∷ []) 4 ∷ [])))
@@ -40,21 +40,21 @@ unfolding ids fnv
 four_ids = refl
 
 -- two columns in the order of the key
-in_order : place_number (Hash (0 ∷ (1 ∷ []))) row 1000 ≡ 186
-unfolding row fnv
+in_order : place_number (Hash (0 ∷ (1 ∷ []))) entry 1000 ≡ 186
+unfolding entry fnv
 in_order = refl
 
-turned : place_number (Hash (1 ∷ (0 ∷ []))) row 1000 ≡ 304
-unfolding row fnv
+turned : place_number (Hash (1 ∷ (0 ∷ []))) entry 1000 ≡ 304
+unfolding entry fnv
 turned = refl
 
-order_counts : (place_number (Hash (1 ∷ (0 ∷ []))) row 1000 == 186) ≡ false
-unfolding row fnv
+order_counts : (place_number (Hash (1 ∷ (0 ∷ []))) entry 1000 == 186) ≡ false
+unfolding entry fnv
 order_counts = refl
 
 -- no column: all rows lie together
-no_column : place_number (Hash []) row 1000 ≡ 0xcbf29ce484222325 % 1000
-unfolding row fnv
+no_column : place_number (Hash []) entry 1000 ≡ 0xcbf29ce484222325 % 1000
+unfolding entry fnv
 no_column = refl
 
 -- the variant counts
@@ -62,8 +62,8 @@ kinds_differ : (place_number (Hash (0 ∷ [])) (Int (pos 1) ∷ []) 1000 == plac
 unfolding fnv
 kinds_differ = refl
 
-remainder : place_number (Modulus 0) row 4 ≡ 3
-unfolding row
+remainder : place_number (Modulus 0) entry 4 ≡ 3
+unfolding entry
 remainder = refl
 
 below_zero : place_number (Modulus 0) (Int (neg_ℤ (pos 7)) ∷ []) 4 ≡ 1
@@ -75,6 +75,6 @@ not_turned e = cc
 greatest : place_number (Modulus 0) (UInt 18446744073709551615 ∷ []) 10 ≡ 5
 greatest = refl
 
-null_first : place_number (Modulus 2) row 4 ≡ 0
-unfolding row
+null_first : place_number (Modulus 2) entry 4 ≡ 0
+unfolding entry
 null_first = refl

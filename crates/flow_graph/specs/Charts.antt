@@ -67,15 +67,21 @@ abbrev pub into_seq : Chart → ℕ → Bool
 into_seq c l = is_seq (op_at c (link_at c l).to).mark
 
 abbrev pub no_parts : OpParts
-no_parts = record { keys = []; cols = [] }
+no_parts = record { keys = []; cols = []; exprs = [] }
+
+abbrev pub parts_of : Chart → ℕ → OpParts
+parts_of c o = get_or c.parts o no_parts
 
 abbrev pub keys_at : Chart → ℕ → List (List Key)
-keys_at c o = (get_or c.parts o no_parts).keys
+keys_at c o = (parts_of c o).keys
 
 abbrev pub cols_at : Chart → ℕ → List ℕ
-cols_at c o = (get_or c.parts o no_parts).cols
+cols_at c o = (parts_of c o).cols
 
--- the number of columns of input 0
+-- the columns of input 0, and their number
+abbrev pub first_fields : Chart → ℕ → List Field
+first_fields c o = get_or c.schemas (get_or (links_into c o) 0 0) []
+
 abbrev pub first_width : Chart → ℕ → ℕ
 first_width c o = width_at c (get_or (links_into c o) 0 0)
 

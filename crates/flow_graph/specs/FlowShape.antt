@@ -3,14 +3,16 @@ use Rattle.std.specs.Prelude.{◌≡◌, ℕ, ◌<◌, ◌≤◌, ◌^◌, Bool,
 use Rattle.std.specs.List.{AllByRecursion, range_with_len}
 use Rattle.std.specs.List.Sorted.{IsPermutation}
 use Rattle.ds_schema.specs.Rows.{cols, KeysDiffer}
+use Rattle.ds_schema.specs.Schemas.{IsSchema}
 use Rattle.op_base.specs.Columns.{IsIn, Lies, all_columns}
 use Rattle.op_base.specs.Keyed.{get_keys}
 use Rattle.flow_graph.specs.declared.op_kind.OpKind.{OpKind}
 use Rattle.flow_graph.specs.declared.op_kind.OpKind.TheVariants as kind
 use Rattle.flow_graph.specs.declared.route.Route.{Route}
 use Rattle.flow_graph.specs.declared.route.Route.TheVariants as route
-use Rattle.flow_graph.specs.Charts.{Chart, link_at, width_at, links_into, links_from, op_at, into_seq, keys_at, cols_at, first_width, form_at}
+use Rattle.flow_graph.specs.Charts.{Chart, link_at, width_at, links_into, links_from, op_at, into_seq, keys_at, cols_at, parts_of, first_fields, first_width, form_at}
 use Rattle.flow_graph.specs.Forms.{Form, import, dsread, by_row, tsort, remdup, group, join, merge, lookup, changecapture, funnel, funnel_sequence, funnel_sort}
+use Rattle.flow_graph.specs.RowRules.{ExprsFit}
 use Rattle.flow_graph.specs.Runs.{RouteFits}
 use Rattle.flow_graph.specs.Shapes.{DeclaredFits}
 
@@ -72,6 +74,7 @@ FormFills f width = ⊤
 pub record LinkFits (c : Chart) (l : ℕ) : Type 0 where
   pub from : (link_at c l).from < length c.flow.ops
   pub to : (link_at c l).to < length c.flow.ops
+  pub schema : IsSchema (get_or c.schemas l [])
   pub width : width_at c l ≤ 256
   pub out : FormHasPort (form_at c (link_at c l).from) (link_at c l).out
   pub filled : FormFills (form_at c (link_at c l).from) (width_at c l)
@@ -111,6 +114,7 @@ pub record OpFits (c : Chart) (o : ℕ) : Type 0 where
   pub keys_differ : AllByRecursion KeysDiffer (keys_at c o)
   pub columns : ColumnsLie c o (op_at c o).kind
   pub few_kept : FewKept (op_at c o).kind (cols_at c o)
+  pub exprs : ExprsFit (first_fields c o) (op_at c o).kind (parts_of c o)
 
 pub record IsShape (c : Chart) : Type 0 where
   pub few_ops : length c.flow.ops < 2 ^ 32

@@ -4,7 +4,7 @@ use Rattle.ds_schema.specs.declared.key.Key.{Key}
 use Rattle.op_base.specs.Columns.{Passing, everything, only, pairs_of, all_columns}
 use Rattle.op_base.specs.Keyed.{get_keys}
 use Rattle.op_base.specs.Meanings.{Looking}
-use Rattle.flow_graph.specs.declared.place.Place.{Place}
+use Rattle.ds_place.specs.declared.place.Place.{Place}
 use Rattle.flow_graph.specs.Operators.{Op}
 use Rattle.flow_graph.specs.Operators as op
 

@@ -1,13 +1,14 @@
 pub mod Charts
 pub mod Columns
 pub mod Destinations
+pub mod Fitting
 pub mod FlowShape
 pub mod Forms
 pub mod Grades
 pub mod Laws
 pub mod Operators
 pub mod Parts
-pub mod Placing
+pub mod RowRules
 pub mod Runs
 pub mod Shapes
 pub mod States

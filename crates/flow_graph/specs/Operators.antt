@@ -9,7 +9,7 @@ use Rattle.op_base.specs.Keyed.{by_key, arranged, for_values}
 use Rattle.op_base.specs.Lists.{joined}
 use Rattle.op_base.specs.Meanings.{Line, Segment, Grouping, Join, Merging, Looking, Capture, input, line_rows, line_faults, one_row, group_rows, group_faults, join_rule, merge_rule, looked_row, looked_fault, change_rule, columns_of, ways_of}
 use Rattle.op_base.specs.RowOperators.{RowRule}
-use Rattle.flow_graph.specs.declared.place.Place.{Place}
+use Rattle.ds_place.specs.declared.place.Place.{Place}
 
 -- import has its lines, whether it has -reject, and faults of no line, as of a file that is too long;
 -- dsread has its segments and the declared place; remdup whether it has -last

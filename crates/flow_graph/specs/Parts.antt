@@ -7,8 +7,8 @@ use Rattle.ds_schema.specs.declared.key.Key.{Key}
 use Rattle.ds_schema.specs.Rows.{sub, row_cmp}
 use Rattle.op_base.specs.Columns.{Row}
 use Rattle.op_base.specs.Lists.{joined, OneHolds, IsArranged}
-use Rattle.flow_graph.specs.declared.place.Place.{Place}
-use Rattle.flow_graph.specs.Placing.{place_number}
+use Rattle.ds_place.specs.declared.place.Place.{Place}
+use Rattle.ds_place.specs.Places.{place_number}
 
 -- of each value of the columns, one partition has the rows as the whole has them, and no other has any
 abbrev pub Agree : List ℕ → List (List Row) → List Row → Type 0

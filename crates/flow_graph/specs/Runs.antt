@@ -9,13 +9,13 @@ use Rattle.op_base.specs.Feeds.{by_runs}
 use Rattle.op_base.specs.Keyed.{arranged}
 use Rattle.op_base.specs.Lists.{joined, Interleaves, Merges, in_turn}
 use Rattle.op_base.specs.Meanings.{Segment, input, one_row, group_rows, group_faults, join_rule, merge_rule, change_rule, columns_of, ways_of}
-use Rattle.flow_graph.specs.declared.place.Place.TheVariants as place
+use Rattle.ds_place.specs.declared.place.Place.TheVariants as place
 use Rattle.flow_graph.specs.declared.route.Route.{Route}
 use Rattle.flow_graph.specs.declared.route.Route.TheVariants as route
 use Rattle.flow_graph.specs.Destinations.{SentFrom}
 use Rattle.flow_graph.specs.Forms.{form, sort_key}
 use Rattle.flow_graph.specs.Operators.{Op, import, dsread, remdup, group, join, merge, changecapture, funnel, funnel_sort, result, faults}
-use Rattle.flow_graph.specs.Placing.{place_number}
+use Rattle.ds_place.specs.Places.{place_number}
 use Rattle.flow_graph.specs.Shapes.{IsShaped, HasPort, FitsPorts, KeysDistinct}
 
 -- a link: the output that it leaves from, its number, how it goes, and whether its consumer is sequential

@@ -9,8 +9,8 @@ use Rattle.op_base.specs.Columns.{Row, Pairs, Passing, everything, only, IsIn, L
 use Rattle.op_base.specs.Keyed.{get_keys}
 use Rattle.op_base.specs.Meanings.{Segment, Grouping, Merging, line_rows}
 use Rattle.op_base.specs.RowOperators.{RowRule}
-use Rattle.flow_graph.specs.declared.place.Place.{Place}
-use Rattle.flow_graph.specs.declared.place.Place.TheVariants.{Hash, Modulus}
+use Rattle.ds_place.specs.declared.place.Place.{Place}
+use Rattle.ds_place.specs.declared.place.Place.TheVariants.{Hash, Modulus}
 use Rattle.flow_graph.specs.declared.state.Spot.{Spot}
 use Rattle.flow_graph.specs.declared.state.Spot.TheVariants as spot
 use Rattle.flow_graph.specs.Operators.{Op, import, dsread, by_row, tsort, remdup, group, join, merge, lookup, changecapture, funnel, funnel_sequence, funnel_sort}

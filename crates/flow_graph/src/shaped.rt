@@ -19,10 +19,14 @@ pub struct Shaped {
 }
 
 impl Model for Shaped {
+    ghost use Rattle.std.specs.Coded.{codes};
+    ghost use Rattle.ds_expr.specs.contracts.node.Node as tree;
     ghost use Rattle.flow_graph.specs.Charts.{Chart};
     ghost use Rattle.flow_graph.specs.FlowShape.{IsShape};
 
     ghost Value = { Chart };
+
+    ghost coded = { Prim.hlevel (codes, tree.the_row.coded) };
 
     ghost view = { λ s. record { flow = s.flow; schemas = s.schemas; parts = s.parts; written = s.written; order = s.order; stored = s.stored } };
 

@@ -1,4 +1,5 @@
-use crate::{ColSet, Place};
+use crate::ColSet;
+use ds_place::Place;
 use ds_schema::KeyList;
 use ds_value::{Copied, NoMemory};
 

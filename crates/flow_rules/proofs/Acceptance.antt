@@ -6,7 +6,7 @@ use Rattle.ds_schema.specs.declared.key.Key.{Key}
 use Rattle.ds_schema.specs.Rows.{cols, KeysDiffer}
 use Rattle.op_base.specs.Columns.{IsIn, pairs_of, column_in}
 use Rattle.op_base.specs.Keyed.{get_keys}
-use Rattle.flow_graph.specs.declared.place.Place.TheVariants.{Hash, Modulus}
+use Rattle.ds_place.specs.declared.place.Place.TheVariants.{Hash, Modulus}
 use Rattle.flow_graph.specs.declared.route.Route.{Route}
 use Rattle.flow_graph.specs.declared.route.Route.TheVariants as route
 use Rattle.flow_graph.specs.declared.state.Spot.{Spot}

@@ -10,8 +10,8 @@ use Rattle.flow_graph.specs.Operators.{Op, by_row, changecapture, dsread, faults
 use Rattle.flow_graph.specs.Runs.{Delivers, FitsShape, Forward, Gives, InsertedFrom, Lists, Means, Node, Out, RouteFits, Runs, arranged_if, links, meant_faults, result_on, run_faults, slice}
 use Rattle.flow_graph.specs.Shapes.{AllWide, FitsPorts, HasPort, SpotFits, Wide}
 use Rattle.flow_graph.specs.States.{AllHold, Common, Holds, HoldsIn}
-use Rattle.flow_graph.specs.declared.place.Place.{Place}
-use Rattle.flow_graph.specs.declared.place.Place.TheVariants.{Hash, Modulus}
+use Rattle.ds_place.specs.declared.place.Place.{Place}
+use Rattle.ds_place.specs.declared.place.Place.TheVariants.{Hash, Modulus}
 use Rattle.flow_graph.specs.declared.state.Spot.{Spot}
 use Rattle.flow_graph.specs.declared.state.State.{State}
 use Rattle.flow_rules.specs.Derive.{kept_place, passed_state, all_at_place, carried_place, common_place, declared_state, first_keys, first_state, key_places, places, read_state, refined, routed_state, same_place, solo_state, sorted_state}

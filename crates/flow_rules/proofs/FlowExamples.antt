@@ -7,7 +7,7 @@ use Rattle.ds_value.specs.declared.value.Value.{Value}
 use Rattle.ds_value.specs.declared.value.Value.TheVariants.{Int, Null}
 use Rattle.flow_graph.specs.Operators.{by_row, group, import, join, result}
 use Rattle.flow_graph.specs.Shapes.{Wide}
-use Rattle.flow_graph.specs.declared.place.Place.TheVariants.{Hash}
+use Rattle.ds_place.specs.declared.place.Place.TheVariants.{Hash}
 use Rattle.flow_graph.specs.declared.state.State.{State}
 use Rattle.flow_rules.specs.Soundness.{Sound}
 use Rattle.op_base.specs.Columns.{only, Row}

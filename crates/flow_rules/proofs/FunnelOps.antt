@@ -7,10 +7,10 @@ use Rattle.ds_schema.specs.Rows.{cols, has, row_cmp, sub, val}
 use Rattle.ds_schema.specs.declared.key.Key.{Key}
 use Rattle.ds_value.specs.declared.value.Value.{Value}
 use Rattle.flow_graph.specs.Parts.{Agree, Bag, PlacedFrom}
-use Rattle.flow_graph.specs.Placing.{hash_number, modulus_number}
+use Rattle.ds_place.specs.Places.{hash_number, modulus_number}
 use Rattle.flow_graph.specs.Runs.{Funnelled, slice}
 use Rattle.flow_graph.specs.States.{AllHold, AgreeIf, Holds, LiesAt}
-use Rattle.flow_graph.specs.declared.place.Place.TheVariants.{Hash, Modulus}
+use Rattle.ds_place.specs.declared.place.Place.TheVariants.{Hash, Modulus}
 use Rattle.flow_graph.specs.declared.state.Spot.{Spot}
 use Rattle.flow_graph.specs.declared.state.State.{State}
 use Rattle.flow_rules.specs.Derive.{agree_sets, all_at_place, both_sets, common_place, if_common, more, places, same_list, same_place}

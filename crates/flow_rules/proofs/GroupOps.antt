@@ -17,7 +17,7 @@ use Rattle.ds_value.specs.declared.value.Value.{Value}
 use Rattle.flow_graph.specs.Parts.{Agree, Sorted}
 use Rattle.flow_graph.specs.Shapes.{GroupShape}
 use Rattle.flow_graph.specs.States.{AgreeIf, Common, Holds, LiesAt}
-use Rattle.flow_graph.specs.declared.place.Place.TheVariants.{Hash, Modulus}
+use Rattle.ds_place.specs.declared.place.Place.TheVariants.{Hash, Modulus}
 use Rattle.flow_graph.specs.declared.state.Spot.{Spot}
 use Rattle.flow_graph.specs.declared.state.State.{State}
 use Rattle.flow_rules.specs.Derive.{agrees_in, carried, carried_agree, carried_place, first_keys, group_agree, grouped_state, placed_in}

@@ -9,7 +9,7 @@ use Rattle.ds_value.specs.declared.value.Value.{Value}
 use Rattle.flow_graph.specs.Parts.{Agree, Bag, PlacedFrom}
 use Rattle.flow_graph.specs.Runs.{slice}
 use Rattle.flow_graph.specs.States.{AllHold, AgreeIf, Common, Holds, LiesAt}
-use Rattle.flow_graph.specs.declared.place.Place.TheVariants.{Hash, Modulus}
+use Rattle.ds_place.specs.declared.place.Place.TheVariants.{Hash, Modulus}
 use Rattle.flow_graph.specs.declared.state.Spot.{Spot}
 use Rattle.flow_graph.specs.declared.state.State.{State}
 use Rattle.flow_rules.specs.Derive.{agrees_in, all_agree_in, all_at_place, carried, carried_place, common_place, first_keys, hashed_if, key_places, keyed_state, modulus_if, placed_in, same_place, with_column}

@@ -6,10 +6,10 @@ use Rattle.ds_schema.specs.Rows.{at, cols, val}
 use Rattle.ds_schema.specs.declared.key.Key.{Key}
 use Rattle.ds_value.specs.declared.value.Value.{Value}
 use Rattle.flow_graph.specs.Parts.{PlacedFrom}
-use Rattle.flow_graph.specs.Placing.{hash_number, modulus_number}
+use Rattle.ds_place.specs.Places.{hash_number, modulus_number}
 use Rattle.flow_graph.specs.Shapes.{Carries}
 use Rattle.flow_graph.specs.States.{LiesAt}
-use Rattle.flow_graph.specs.declared.place.Place.TheVariants.{Hash, Modulus}
+use Rattle.ds_place.specs.declared.place.Place.TheVariants.{Hash, Modulus}
 use Rattle.flow_graph.specs.declared.state.Spot.{Spot}
 use Rattle.flow_rules.specs.Derive.{carried, carried_place, first_keys, hashed_if, modulus_if, with_column}
 use Rattle.op_base.specs.Columns.{Pairs, Row, column_in, pairs_of}

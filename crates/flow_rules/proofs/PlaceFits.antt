@@ -6,8 +6,8 @@ use Rattle.ds_schema.specs.declared.key.Key.{Key}
 use Rattle.flow_graph.specs.Operators.{Op, by_row, changecapture, dsread, funnel, funnel_sequence, funnel_sort, group, import, join, lookup, merge, remdup, tsort}
 use Rattle.flow_graph.specs.Runs.{RouteFits}
 use Rattle.flow_graph.specs.Shapes.{PassesInto, AllWidths, DeclaredFits, IsShaped, SpotFits}
-use Rattle.flow_graph.specs.declared.place.Place.{Place}
-use Rattle.flow_graph.specs.declared.place.Place.TheVariants.{Hash, Modulus}
+use Rattle.ds_place.specs.declared.place.Place.{Place}
+use Rattle.ds_place.specs.declared.place.Place.TheVariants.{Hash, Modulus}
 use Rattle.flow_graph.specs.declared.route.Route.{Route}
 use Rattle.flow_graph.specs.declared.state.Spot.{Spot}
 use Rattle.flow_graph.specs.declared.state.State.{State}

@@ -10,10 +10,10 @@ use Rattle.ds_schema.specs.declared.key.Key.{Key}
 use Rattle.ds_value.specs.Values.{number}
 use Rattle.ds_value.specs.declared.value.Value.{Value}
 use Rattle.flow_graph.specs.Parts.{Agree, Sorted}
-use Rattle.flow_graph.specs.Placing.{hash_number, modulus_number}
+use Rattle.ds_place.specs.Places.{hash_number, modulus_number}
 use Rattle.flow_graph.specs.Shapes.{SpotFits, Wide}
 use Rattle.flow_graph.specs.States.{AgreeIf, Common, Holds, HoldsIn}
-use Rattle.flow_graph.specs.declared.place.Place.TheVariants.{Hash, Modulus}
+use Rattle.ds_place.specs.declared.place.Place.TheVariants.{Hash, Modulus}
 use Rattle.flow_graph.specs.declared.state.Spot.{Spot}
 use Rattle.flow_graph.specs.declared.state.State.{State}
 use Rattle.flow_graph.specs.Columns.{set_of}

@@ -9,10 +9,10 @@ use Rattle.ds_value.specs.Values.{number}
 use Rattle.ds_value.specs.declared.value.Value.{Value}
 use Rattle.flow_graph.specs.Destinations.{SentFrom}
 use Rattle.flow_graph.specs.Parts.{Sorted}
-use Rattle.flow_graph.specs.Placing.{hash_number, modulus_number}
+use Rattle.ds_place.specs.Places.{hash_number, modulus_number}
 use Rattle.flow_graph.specs.Runs.{Arrives}
 use Rattle.flow_graph.specs.States.{AgreeIf, Common, Holds, LiesAt}
-use Rattle.flow_graph.specs.declared.place.Place.TheVariants.{Hash, Modulus}
+use Rattle.ds_place.specs.declared.place.Place.TheVariants.{Hash, Modulus}
 use Rattle.flow_graph.specs.declared.route.Route.{Route}
 use Rattle.flow_graph.specs.declared.state.Spot.{Spot}
 use Rattle.flow_graph.specs.declared.state.State.{State}

@@ -9,10 +9,10 @@ use Rattle.ds_value.specs.declared.value.Value.{Value}
 use Rattle.flow_graph.specs.Forms.{looked_passing}
 use Rattle.flow_graph.specs.Shapes
 use Rattle.flow_graph.specs.Parts.{Agree, PlacedFrom}
-use Rattle.flow_graph.specs.Placing.{hash_number, modulus_number}
+use Rattle.ds_place.specs.Places.{hash_number, modulus_number}
 use Rattle.flow_graph.specs.Shapes.{Carries, Wide}
 use Rattle.flow_graph.specs.States.{AgreeIf, Common, Holds, HoldsIn, LiesAt}
-use Rattle.flow_graph.specs.declared.place.Place.TheVariants.{Hash, Modulus}
+use Rattle.ds_place.specs.declared.place.Place.TheVariants.{Hash, Modulus}
 use Rattle.flow_graph.specs.declared.state.Spot.{Spot}
 use Rattle.flow_graph.specs.declared.state.State.{State}
 use Rattle.flow_rules.specs.Derive.{carried, carried_agree, carried_place, carried_sort, kept_place, passed_state, hashed_if, key_if, modulus_if}

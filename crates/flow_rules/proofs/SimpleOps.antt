@@ -8,12 +8,12 @@ use Rattle.std.specs.Ordering.{is_lt}
 use Rattle.ds_schema.specs.Rows.{cols, row_cmp}
 use Rattle.ds_schema.specs.declared.key.Key.{Key}
 use Rattle.flow_graph.specs.Parts.{Agree}
-use Rattle.flow_graph.specs.Placing.{hash_number, modulus_number}
+use Rattle.ds_place.specs.Places.{hash_number, modulus_number}
 use Rattle.flow_graph.specs.Runs.{arranged_if}
 use Rattle.flow_graph.specs.Shapes.{DeclaredAt}
 use Rattle.flow_graph.specs.States.{AgreeIf, Common, Holds, LiesAt}
-use Rattle.flow_graph.specs.declared.place.Place.{Place}
-use Rattle.flow_graph.specs.declared.place.Place.TheVariants.{Hash, Modulus}
+use Rattle.ds_place.specs.declared.place.Place.{Place}
+use Rattle.ds_place.specs.declared.place.Place.TheVariants.{Hash, Modulus}
 use Rattle.flow_graph.specs.declared.state.State.{State}
 use Rattle.flow_rules.specs.Derive.{agrees_in, declared_state, read_state, solo_state, sorted_state}
 use Rattle.op_base.specs.Columns.{Lies, Row}

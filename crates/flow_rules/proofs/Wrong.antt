@@ -10,14 +10,14 @@ use Rattle.ds_schema.specs.Rows.{has, val}
 use Rattle.op_base.specs.Columns.{Row}
 use Rattle.op_base.specs.Lists.{OneHolds, Interleaves}
 use Rattle.op_base.specs.Meanings.{Join}
-use Rattle.flow_graph.specs.declared.place.Place.TheVariants as place
+use Rattle.ds_place.specs.declared.place.Place.TheVariants as place
 use Rattle.flow_graph.specs.declared.route.Route.TheVariants as route
 use Rattle.flow_graph.specs.declared.state.State.{State}
 use Rattle.flow_graph.specs.declared.state.Spot.TheVariants as spot
 use Rattle.flow_graph.specs.Destinations.{lanes_to}
 use Rattle.flow_graph.specs.Operators.{join, result}
 use Rattle.flow_graph.specs.Parts.{Agree}
-use Rattle.flow_graph.specs.Placing.{place_number}
+use Rattle.ds_place.specs.Places.{place_number}
 use Rattle.flow_graph.specs.Runs.{Arrives}
 use Rattle.flow_graph.specs.States.{Holds}
 use Rattle.flow_rules.specs.WrongRules.{RemdupWhereColocated, RepartitionAgreesAlone, AnyKeepsSort, JoinsLieApart, RegainWithoutSort}

@@ -5,8 +5,8 @@ use Rattle.ds_schema.specs.Rows.{cols}
 use Rattle.op_base.specs.Columns.{Pairs, Passing, everything, only, pairs_of, column_in, all_columns, is_in, lies}
 use Rattle.op_base.specs.Keyed.{get_keys, without}
 use Rattle.flow_graph.specs.Columns.{set_of}
-use Rattle.flow_graph.specs.declared.place.Place.{Place}
-use Rattle.flow_graph.specs.declared.place.Place.TheVariants.{Hash, Modulus}
+use Rattle.ds_place.specs.declared.place.Place.{Place}
+use Rattle.ds_place.specs.declared.place.Place.TheVariants.{Hash, Modulus}
 use Rattle.flow_graph.specs.declared.state.State.{State}
 use Rattle.flow_graph.specs.declared.state.Spot.{Spot}
 use Rattle.flow_graph.specs.declared.state.Spot.TheVariants as spot

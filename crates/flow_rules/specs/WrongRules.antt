@@ -6,7 +6,7 @@ use Rattle.op_base.specs.Columns.{Row, lies}
 use Rattle.op_base.specs.Meanings.{Join}
 use Rattle.flow_graph.specs.declared.state.State.{State}
 use Rattle.flow_graph.specs.declared.state.Spot.TheVariants as spot
-use Rattle.flow_graph.specs.declared.place.Place.TheVariants as place
+use Rattle.ds_place.specs.declared.place.Place.TheVariants as place
 use Rattle.flow_graph.specs.declared.route.Route.TheVariants as route
 use Rattle.flow_graph.specs.Forms.{form}
 use Rattle.flow_graph.specs.Operators.{remdup, join, result}

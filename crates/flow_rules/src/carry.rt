@@ -3,7 +3,8 @@ ghost use Rattle.op_base.specs.Columns.{pairs_of, column_in};
 ghost use Rattle.flow_rules.specs.Derive.{carried, carried_place, kept_place};
 
 use ds_value::{Copied, Items, NoMemory};
-use flow_graph::{Place, Spot};
+use ds_place::Place;
+use flow_graph::Spot;
 use std::alloc::Global;
 
 /// Columns of an input, each with the output column that holds its values.

@@ -5,7 +5,7 @@ ghost use Rattle.ds_schema.specs.declared.key.Key.{Key};
 ghost use Rattle.op_base.specs.declared.fault.Fault.{Fault};
 ghost use Rattle.op_base.specs.Meanings.{Line, Segment, Grouping, Join, Merging, Looking, Capture};
 ghost use Rattle.op_base.specs.RowOperators.{RowRule};
-ghost use Rattle.flow_graph.specs.declared.place.Place.{Place};
+ghost use Rattle.ds_place.specs.declared.place.Place.{Place};
 ghost use Rattle.flow_graph.specs.declared.route.Route.TheVariants as route;
 ghost use Rattle.flow_graph.specs.Operators.{import, dsread, by_row, tsort, remdup, group, join, merge, lookup, changecapture, funnel, funnel_sequence, funnel_sort};
 ghost use Rattle.flow_rules.specs.Laws.{OperatorHolds, FaultsAgree, RouteHolds, SortHolds, RegainHolds, RefiningHolds, AgreementIsWhole, ExactIsWhole, FlowsKeep, FlowFaultsAgree, SinksMeet, OneMeaning};

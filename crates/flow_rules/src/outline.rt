@@ -7,7 +7,8 @@ ghost use Rattle.flow_rules.specs.Outlines.{outline_form, kind_passes, passes_at
 
 use ds_schema::KeyList;
 use ds_value::{Copied, Items, NoMemory};
-use flow_graph::{AggSpec, OpKind, Place, Shaped, Stored};
+use ds_place::Place;
+use flow_graph::{AggSpec, OpKind, Shaped, Stored};
 
 /// What the checker sees of an operator: which it is, and its keys.
 #[derive(Debug, Drop)]

@@ -6,7 +6,8 @@ ghost use Rattle.flow_rules.specs.Derive.{carried_place, placed_in, agrees_in, s
 use crate::carry::{carried_place, pairs_of};
 use ds_schema::KeyList;
 use ds_value::{Copied, NoMemory};
-use flow_graph::{ColSet, Place, Spot, State, columns_of, is_in, lies};
+use ds_place::Place;
+use flow_graph::{ColSet, Spot, State, columns_of, is_in, lies};
 use std::alloc::Global;
 
 /// Solo, or a place whose columns are all among these.

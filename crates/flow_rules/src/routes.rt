@@ -8,7 +8,8 @@ ghost use Rattle.flow_rules.specs.Derive.{settled, set_if, more, solo_sort, merg
 use crate::sorts::no_keys;
 use ds_schema::KeyList;
 use ds_value::{Copied, NoMemory};
-use flow_graph::{ColSet, Place, Route, Spot, State};
+use ds_place::Place;
+use flow_graph::{ColSet, Route, Spot, State};
 use std::alloc::Global;
 
 /// The sort list after a route that brings rows of several partitions together in any order.

@@ -10,7 +10,8 @@ use crate::places::{agrees_in, common_place, key_places, placed_in, places};
 use crate::sorts::{carried_sort, first_keys, no_keys, resorted};
 use ds_schema::KeyList;
 use ds_value::{Copied, Items, NoMemory};
-use flow_graph::{ColSet, Place, Spot, State, columns_of};
+use ds_place::Place;
+use flow_graph::{ColSet, Spot, State, columns_of};
 use std::alloc::Global;
 
 /// A state by its parts, whose agree set may name columns twice and in any order.

@@ -5,8 +5,8 @@ use Rattle.ds_value.specs.declared.kind.Kind.TheVariants as kind
 use Rattle.ds_schema.specs.declared.key.Key.{Key}
 use Rattle.ds_schema.specs.declared.schema.Field.{Field}
 use Rattle.op_base.specs.Columns.{all_columns, lies}
-use Rattle.flow_graph.specs.declared.place.Place.{Place}
-use Rattle.flow_graph.specs.declared.place.Place.TheVariants.{Hash, Modulus}
+use Rattle.ds_place.specs.declared.place.Place.{Place}
+use Rattle.ds_place.specs.declared.place.Place.TheVariants.{Hash, Modulus}
 use Rattle.flow_graph.specs.declared.route.Route.{Route}
 use Rattle.flow_graph.specs.declared.route.Route.TheVariants as route
 use Rattle.flow_graph.specs.declared.state.State.{State}

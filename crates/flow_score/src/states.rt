@@ -6,7 +6,8 @@ ghost use Rattle.flow_score.specs.Texts.{place_text, spot_text, need_text, route
 use crate::columns::{put, put_column, put_named_columns, put_named_keys};
 use ds_schema::Field;
 use ds_value::{Bytes, NoMemory};
-use flow_graph::{Place, Route, Spot};
+use ds_place::Place;
+use flow_graph::{Route, Spot};
 use flow_rules::Need;
 
 fn put_place(text: &mut Bytes, fields: &[Field], place: &Place) -> Result<(), NoMemory>

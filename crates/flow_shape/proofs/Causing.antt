@@ -7,9 +7,9 @@ use Rattle.flow_graph.specs.declared.flow.Flow.{Flow}
 use Rattle.flow_graph.specs.declared.flow.OpSpec.{OpSpec}
 use Rattle.flow_graph.specs.declared.op_kind.OpKind.{OpKind}
 use Rattle.flow_graph.specs.declared.op_kind.OpKind.TheVariants as kind
-use Rattle.flow_shape.specs.declared.fault.ShapeWhy.{ShapeWhy}
-use Rattle.flow_shape.specs.Causes.{first_cause}
-use Rattle.flow_shape.specs.Options.{IsKnown, first_fields, option_causes, output_causes, operator_parts}
+use Rattle.op_shape.specs.declared.fault.ShapeWhy.{ShapeWhy}
+use Rattle.op_shape.specs.Causes.{first_cause}
+use Rattle.op_shape.specs.Options.{IsKnown, first_fields, option_causes, output_causes, operator_parts}
 use Rattle.flow_shape.specs.Refusals.{HasOnlyKnown, chart_of, inputs_at, input_cause, operator_cause}
 use Rattle.flow_shape.proofs.Firsts.{or_else, first_both}
 

@@ -6,9 +6,9 @@ use Rattle.ds_schema.specs.declared.schema.Field.{Field}
 use Rattle.flow_graph.specs.Charts.{no_link, links_into}
 use Rattle.flow_graph.specs.declared.flow.Flow.{Flow}
 use Rattle.flow_graph.specs.declared.flow.LinkSpec.{LinkSpec}
-use Rattle.flow_shape.specs.declared.fault.ShapeWhy.{ShapeWhy}
-use Rattle.flow_shape.specs.Causes.{first_cause}
-use Rattle.flow_shape.specs.Options.{first_fields}
+use Rattle.op_shape.specs.declared.fault.ShapeWhy.{ShapeWhy}
+use Rattle.op_shape.specs.Causes.{first_cause}
+use Rattle.op_shape.specs.Options.{first_fields}
 use Rattle.flow_shape.specs.Refusals.{chart_of, inputs_at, input_cause, fields_at}
 use Rattle.flow_shape.proofs.Firsts.{or_else, first_next, first_number, no_number}
 use Rattle.flow_shape.proofs.Numbers.{numbers, numbers_of}

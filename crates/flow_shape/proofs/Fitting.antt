@@ -4,7 +4,7 @@ use Rattle.std.specs.List.{AllByRecursion}
 use Rattle.std.proofs.lemmas.Bool.{eqb-true}
 use Rattle.ds_schema.specs.declared.schema.Field.{Field}
 use Rattle.flow_graph.specs.declared.flow.Flow.{Flow}
-use Rattle.flow_shape.specs.Causes.{HasNone}
+use Rattle.flow_shape.specs.Lowest.{HasNone}
 use Rattle.flow_shape.specs.Links.{AreWithin, IsOrder, OnCycle, is_done}
 use Rattle.flow_shape.specs.Refusals.{chart_of, Fits, AllFit}
 use Rattle.flow_shape.proofs.Stuck.{whole_order}

@@ -13,11 +13,11 @@ use Rattle.flow_graph.specs.declared.parts.OpParts.{OpParts}
 use Rattle.flow_graph.specs.declared.parts.Stored.{Stored}
 use Rattle.flow_graph.specs.declared.route.Route.{Route}
 use Rattle.flow_graph.specs.FlowShape.{IsShape, HasLists, LinkFits, OpFits, WrittenFits}
-use Rattle.flow_shape.specs.Causes.{HasNone}
+use Rattle.flow_shape.specs.Lowest.{HasNone}
 use Rattle.flow_shape.specs.Files.{Clashes}
 use Rattle.flow_shape.specs.Links.{IsOrder, IsWhole, OnCycle}
 use Rattle.flow_shape.specs.Methods.{written_route}
-use Rattle.flow_shape.specs.Options.{KeysDistinct, operator_parts}
+use Rattle.op_shape.specs.Options.{KeysDistinct, operator_parts}
 use Rattle.flow_shape.specs.Ports.{WrongPorts, may_have_in}
 use Rattle.flow_shape.specs.Refusals.{HasOnlyKnown, chart_of, inputs_at, AllFit, IsShapeOf, parts_at, written_at, stored_at}
 use Rattle.flow_shape.specs.Spelled.{IsJoined}

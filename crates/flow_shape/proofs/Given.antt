@@ -6,9 +6,9 @@ use Rattle.flow_graph.specs.declared.flow.Flow.{Flow}
 use Rattle.flow_graph.specs.declared.flow.LinkSpec.{LinkSpec}
 use Rattle.flow_graph.specs.declared.op_kind.OpKind.{OpKind}
 use Rattle.flow_graph.specs.declared.op_kind.OpKind.TheVariants as kind
-use Rattle.flow_shape.specs.Causes.{HasNone}
+use Rattle.flow_shape.specs.Lowest.{HasNone}
 use Rattle.flow_shape.specs.Links.{AreWithin}
-use Rattle.flow_shape.specs.Options.{IsKnown, own_fields}
+use Rattle.op_shape.specs.Options.{IsKnown, own_fields}
 use Rattle.flow_shape.specs.Ports.{WrongPorts, ports_fit, may_have_in, may_have_out, count_in, count_out}
 use Rattle.flow_shape.specs.Refusals.{HasOnlyKnown}
 use Rattle.flow_shape.proofs.Causing.{all_at, known_at}

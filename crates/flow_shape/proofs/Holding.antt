@@ -18,11 +18,12 @@ use Rattle.flow_graph.specs.declared.op_kind.OpKind.{OpKind}
 use Rattle.flow_graph.specs.declared.op_kind.OpKind.TheVariants as kind
 use Rattle.flow_graph.specs.declared.parts.Stored.{Stored}
 use Rattle.flow_graph.specs.FlowShape.{WrittenFits, FormHasPort, FormFills, FormPorts, ColumnsLie, FewKept}
-use Rattle.flow_shape.specs.declared.fault.ShapeWhy.TheVariants as why
-use Rattle.flow_shape.specs.Causes.{first_cause, cause_if, HasNone}
+use Rattle.op_shape.specs.declared.fault.ShapeWhy.TheVariants as why
+use Rattle.op_shape.specs.Causes.{first_cause, cause_if}
+use Rattle.flow_shape.specs.Lowest.{HasNone}
 use Rattle.flow_shape.specs.Methods.{may_stand, all_named, written_route}
-use Rattle.flow_shape.specs.Naming.{is_named, has_column, has_columns, has_keys, column, columns, key_columns}
-use Rattle.flow_shape.specs.Options.{IsKnown, KeysDistinct, first_fields, option_causes, output_causes, operator_keys}
+use Rattle.op_shape.specs.Naming.{is_named, has_column, has_columns, has_keys, column, columns, key_columns}
+use Rattle.op_shape.specs.Options.{IsKnown, KeysDistinct, first_fields, option_causes, output_causes, operator_keys}
 use Rattle.flow_shape.specs.Ports.{may_have_in, count_in, WrongPorts}
 use Rattle.flow_shape.specs.Links.{AreWithin}
 use Rattle.flow_shape.specs.Refusals.{HasOnlyKnown}

@@ -5,7 +5,7 @@ use Rattle.std.proofs.lemmas.Slice.Eq.{bytes_eq-Decides}
 use Rattle.ds_schema.specs.declared.schema.Field.{Field}
 use Rattle.ds_schema.specs.Rows.{KeysDiffer}
 use Rattle.ds_schema.specs.declared.key.Key.{Key}
-use Rattle.flow_shape.specs.Naming.{is_named, has_column, has_keys, column, key_columns, NamesDiffer}
+use Rattle.op_shape.specs.Naming.{is_named, has_column, has_keys, column, key_columns, NamesDiffer}
 use Rattle.flow_shape.proofs.Orders.{and_parts}
 
 name_is : (name : List ℕ) (f : Field) → is_named name f ≡ true → f.name ≡ name

@@ -9,9 +9,9 @@ use Rattle.flow_graph.specs.declared.flow.Flow.{Flow}
 use Rattle.flow_graph.specs.declared.parts.OpParts.{OpParts}
 use Rattle.flow_graph.specs.declared.parts.Stored.{Stored}
 use Rattle.flow_graph.specs.declared.route.Route.{Route}
-use Rattle.flow_shape.specs.declared.fault.ShapeWhy.{ShapeWhy}
+use Rattle.op_shape.specs.declared.fault.ShapeWhy.{ShapeWhy}
 use Rattle.flow_shape.specs.Answers.{OneShape, ShapeOrFault, OneFault}
-use Rattle.flow_shape.specs.Causes.{IsLowest, HasNone}
+use Rattle.flow_shape.specs.Lowest.{IsLowest, HasNone}
 use Rattle.flow_shape.specs.Files.{Clashes}
 use Rattle.flow_shape.specs.Links.{AreWithin, OnCycle, is_done, is_ready, Follows}
 use Rattle.flow_shape.specs.Ports.{WrongPorts}

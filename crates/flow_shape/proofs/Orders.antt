@@ -3,7 +3,7 @@ use Rattle.std.specs.List.{list_all}
 use Rattle.std.proofs.lemmas.Bool.{eqb-true, eqb-false}
 use Rattle.flow_graph.specs.declared.flow.LinkSpec.{LinkSpec}
 use Rattle.flow_shape.specs.Links.{joins, feeds, Way, OnCycle, is_done, is_ready, Follows, IsOrder}
-use Rattle.flow_shape.specs.Causes.{IsLowest}
+use Rattle.flow_shape.specs.Lowest.{IsLowest}
 use Rattle.flow_shape.specs.Laws.{OneOrder, OrderedIsFree}
 
 -- how many of n aren't done

@@ -6,11 +6,11 @@ use Rattle.ds_schema.specs.declared.schema.Field.{Field}
 use Rattle.flow_graph.specs.Charts.{no_link, no_op, is_seq}
 use Rattle.flow_graph.specs.declared.flow.Flow.{Flow}
 use Rattle.flow_graph.specs.declared.flow.Method.{Method}
-use Rattle.flow_shape.specs.declared.fault.ShapeWhy.{ShapeWhy}
-use Rattle.flow_shape.specs.declared.fault.ShapeWhy.TheVariants as why
-use Rattle.flow_shape.specs.Causes.{first_cause, cause_if}
+use Rattle.op_shape.specs.declared.fault.ShapeWhy.{ShapeWhy}
+use Rattle.op_shape.specs.declared.fault.ShapeWhy.TheVariants as why
+use Rattle.op_shape.specs.Causes.{first_cause, cause_if}
 use Rattle.flow_shape.specs.Methods.{may_stand, all_named, kinds_suit, method_cause}
-use Rattle.flow_shape.specs.Options.{first_fields, option_causes, output_causes, IsKnown}
+use Rattle.op_shape.specs.Options.{first_fields, option_causes, output_causes, IsKnown}
 use Rattle.flow_shape.specs.Refusals.{chart_of, inputs_at, input_cause, operator_cause}
 use Rattle.flow_shape.proofs.Causing.{own_same}
 

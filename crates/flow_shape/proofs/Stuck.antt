@@ -4,7 +4,7 @@ use Rattle.std.specs.List.{list_all}
 use Rattle.std.proofs.lemmas.Bool.{eqb-true, eq-eqb, eqb-false}
 use Rattle.flow_graph.specs.declared.flow.LinkSpec.{LinkSpec}
 use Rattle.flow_shape.specs.Links.{joins, feeds, Reaches, OnCycle, AreWithin, is_done, is_ready, Follows, IsOrder, IsWhole}
-use Rattle.flow_shape.specs.Causes.{HasNone}
+use Rattle.flow_shape.specs.Lowest.{HasNone}
 use Rattle.flow_shape.proofs.Orders.{or_or, done_more, undone, undone_less, longer}
 use Rattle.flow_shape.proofs.Marks.{or_left, or_right}
 

@@ -1,13 +1,10 @@
 pub mod Answers
-pub mod Causes
 pub mod Files
 pub mod Giving
 pub mod Laws
 pub mod Links
+pub mod Lowest
 pub mod Methods
-pub mod Naming
-pub mod Options
 pub mod Ports
 pub mod Refusals
 pub mod Spelled
-pub mod Widths

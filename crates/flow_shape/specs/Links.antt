@@ -2,7 +2,7 @@
 use Rattle.std.specs.Prelude.{◌≡◌, ◌==◌, ◌<◌, ◌++◌, ℕ, zero, suc, List, [], ◌∷◌, Bool, true, false, not, ◌&&◌, ◌||◌, get_or}
 use Rattle.std.specs.List.{list_any, list_all, AllByRecursion}
 use Rattle.flow_graph.specs.declared.flow.LinkSpec.{LinkSpec}
-use Rattle.flow_shape.specs.Causes.{IsLowest}
+use Rattle.flow_shape.specs.Lowest.{IsLowest}
 
 abbrev pub joins : ℕ → ℕ → LinkSpec → Bool
 joins a b l = (l.from == a) && (l.to == b)

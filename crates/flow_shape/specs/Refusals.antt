@@ -13,13 +13,14 @@ use Rattle.flow_graph.specs.declared.parts.Stored.{Stored}
 use Rattle.flow_graph.specs.declared.route.Route.{Route}
 use Rattle.flow_shape.specs.declared.fault.ShapeFault.{ShapeFault}
 use Rattle.flow_shape.specs.declared.fault.ShapeFault.TheVariants as fault
-use Rattle.flow_shape.specs.declared.fault.ShapeWhy.{ShapeWhy}
-use Rattle.flow_shape.specs.declared.fault.ShapeWhy.TheVariants as why
-use Rattle.flow_shape.specs.Causes.{first_cause, IsLowest, HasNone}
+use Rattle.op_shape.specs.declared.fault.ShapeWhy.{ShapeWhy}
+use Rattle.op_shape.specs.declared.fault.ShapeWhy.TheVariants as why
+use Rattle.op_shape.specs.Causes.{first_cause}
+use Rattle.flow_shape.specs.Lowest.{IsLowest, HasNone}
 use Rattle.flow_shape.specs.Files.{Clashes}
 use Rattle.flow_shape.specs.Links.{OnCycle, IsOrder, IsWhole}
 use Rattle.flow_shape.specs.Methods.{method_cause, written_route}
-use Rattle.flow_shape.specs.Options.{IsKnown, option_causes, output_causes, output_fields, operator_parts}
+use Rattle.op_shape.specs.Options.{IsKnown, option_causes, output_causes, output_fields, operator_parts}
 use Rattle.flow_shape.specs.Ports.{WrongPorts}
 
 abbrev pub HasOnlyKnown : Flow → Type 0

@@ -1,6 +1,6 @@
 ghost use Rattle.std.specs.Prelude.{◌≡◌, ◌<◌, ◌^◌, ◌==◌, ◌||◌, ◌&&◌, not, ℕ, true, false, length, get_or, IfOk, IfSome, IfNone, position};
 ghost use Rattle.std.specs.List.{list_any};
-ghost use Rattle.flow_shape.specs.Causes.{IsLowest, HasNone};
+ghost use Rattle.flow_shape.specs.Lowest.{IsLowest, HasNone};
 ghost use Rattle.flow_shape.specs.Links.{AreWithin, Reaches, OnCycle, is_open};
 
 use ds_value::NoMemory;

@@ -1,6 +1,6 @@
 ghost use Rattle.std.specs.Prelude.{◌≡◌, ◌<◌, ◌^◌, ℕ, true, false, length, get_or, option_copied, IfSome, IfNone};
 ghost use Rattle.flow_graph.specs.Charts.{no_op};
-ghost use Rattle.flow_shape.specs.Causes.{IsLowest, HasNone};
+ghost use Rattle.flow_shape.specs.Lowest.{IsLowest, HasNone};
 ghost use Rattle.flow_shape.specs.Files.{is_digit, digits_len, is_part, is_number, is_ending, extends, names_clash, written_name, outer_name, both_clash, Clashes};
 
 use crate::reading::op_at;

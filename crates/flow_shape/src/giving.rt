@@ -1,6 +1,6 @@
 ghost use Rattle.std.specs.Prelude.{◌≡◌, ◌<◌, ◌==◌, ℕ, cond, set, length, vec_len, get_or, false, OnOk};
 ghost use Rattle.flow_graph.specs.Charts.{no_link};
-ghost use Rattle.flow_shape.specs.Causes.{HasNone};
+ghost use Rattle.flow_shape.specs.Lowest.{HasNone};
 ghost use Rattle.flow_shape.specs.Giving.{HasGiven};
 ghost use Rattle.flow_shape.specs.Links.{AreWithin, feeds};
 ghost use Rattle.flow_shape.specs.Ports.{WrongPorts};

@@ -1,7 +1,7 @@
 ghost use Rattle.std.specs.Prelude.{◌≡◌, ◌<◌, ◌≤◌, ◌==◌, ◌^◌, [], cond, map, length, get_or, position, None, Some, IfSome};
 ghost use Rattle.flow_graph.specs.Charts.{no_op, no_link, is_seq, links_into};
-ghost use Rattle.flow_shape.specs.Causes.{first_cause};
-ghost use Rattle.flow_shape.specs.Options.{first_fields};
+ghost use Rattle.op_shape.specs.Causes.{first_cause};
+ghost use Rattle.op_shape.specs.Options.{first_fields};
 ghost use Rattle.flow_shape.specs.Refusals.{chart_of, inputs_at, input_cause};
 
 use crate::ShapeWhy;

@@ -1,6 +1,6 @@
 ghost use Rattle.std.specs.Prelude.{◌≡◌, ◌<◌, ◌^◌, not, ◌||◌, true, length, IfOk};
 ghost use Rattle.flow_shape.specs.Methods.{may_stand, all_named, is_whole, is_whole_column, kinds_suit, method_cause, written_route, MethodDiffers};
-ghost use Rattle.flow_shape.specs.Naming.{is_named};
+ghost use Rattle.op_shape.specs.Naming.{is_named};
 
 use crate::ShapeWhy;
 use crate::naming::{column, columns, has_column, has_columns, has_keys, is_named, key_list};

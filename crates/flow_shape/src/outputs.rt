@@ -1,8 +1,8 @@
 ghost use Rattle.std.specs.Prelude.{◌≡◌, ◌<◌, ◌==◌, ℕ, [], cond, set, codes, length, get_or, option_copied, IfOk, OnOk};
 ghost use Rattle.flow_graph.specs.Charts.{no_link};
-ghost use Rattle.flow_shape.specs.Causes.{HasNone};
+ghost use Rattle.flow_shape.specs.Lowest.{HasNone};
 ghost use Rattle.flow_shape.specs.Links.{AreWithin};
-ghost use Rattle.flow_shape.specs.Options.{first_fields, own_fields, import_fields, line_fields};
+ghost use Rattle.op_shape.specs.Options.{first_fields, own_fields, import_fields, line_fields};
 ghost use Rattle.flow_shape.specs.Ports.{WrongPorts, count_in};
 ghost use Rattle.flow_shape.specs.Refusals.{HasOnlyKnown, chart_of, inputs_at, given_on};
 

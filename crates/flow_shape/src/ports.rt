@@ -1,6 +1,6 @@
 ghost use Rattle.std.specs.Prelude.{◌≡◌, ◌<◌, ◌==◌, ◌^◌, ◌+◌, not, IfSome, IfNone, length, get_or};
 ghost use Rattle.flow_graph.specs.Charts.{no_op};
-ghost use Rattle.flow_shape.specs.Causes.{IsLowest, HasNone};
+ghost use Rattle.flow_shape.specs.Lowest.{IsLowest, HasNone};
 ghost use Rattle.flow_shape.specs.Ports.{count_in, count_out, up_to_16, may_have_in, may_have_out, rejects, with_reject, ports_fit, WrongPorts};
 
 use crate::reading::op_at;

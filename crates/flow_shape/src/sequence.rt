@@ -1,6 +1,6 @@
 ghost use Rattle.std.specs.Prelude.{◌≡◌, ◌<◌, ◌==◌, ◌||◌, ◌&&◌, not, ℕ, true, false, length, IfOk, IfSome, IfNone};
 ghost use Rattle.std.specs.List.{list_all};
-ghost use Rattle.flow_shape.specs.Causes.{IsLowest};
+ghost use Rattle.flow_shape.specs.Lowest.{IsLowest};
 ghost use Rattle.flow_shape.specs.Laws.{OneOrder, OrderedIsFree};
 ghost use Rattle.flow_shape.specs.Links.{IsOrder, is_done, is_ready};
 

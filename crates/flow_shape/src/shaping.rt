@@ -1,5 +1,5 @@
 ghost use Rattle.std.specs.Prelude.{◌<◌, ◌^◌, length, IfOk, IfErr};
-ghost use Rattle.flow_shape.specs.Causes.{HasNone};
+ghost use Rattle.flow_shape.specs.Lowest.{HasNone};
 ghost use Rattle.flow_shape.specs.Files.{Clashes};
 ghost use Rattle.flow_shape.specs.Links.{AreWithin, IsOrder, OnCycle};
 ghost use Rattle.flow_shape.specs.Ports.{WrongPorts};

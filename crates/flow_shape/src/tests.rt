@@ -2,7 +2,7 @@ ghost use Rattle.std.specs.Prelude.{◌≡◌, ◌∷◌, [], ◌≢◌, IfOk};
 ghost use Rattle.flow_graph.specs.declared.flow.Flag.TheVariants as flag;
 ghost use Rattle.flow_graph.specs.declared.op_kind.OpKind.TheVariants as kind;
 ghost use Rattle.flow_shape.specs.Methods.{MethodDiffers};
-ghost use Rattle.flow_shape.specs.Options.{IsKnown, KeysDistinct};
+ghost use Rattle.op_shape.specs.Options.{IsKnown, KeysDistinct};
 ghost use Rattle.flow_shape.specs.Refusals.{HasOnlyKnown};
 ghost use Rattle.flow_shape.specs.Spelled.{IsJoined};
 

@@ -1,6 +1,6 @@
 ghost use Rattle.std.specs.Prelude.{◌≡◌, ◌<◌, length, IfOk, IfErr};
 ghost use Rattle.std.specs.List.{AllByRecursion};
-ghost use Rattle.flow_shape.specs.Causes.{HasNone};
+ghost use Rattle.flow_shape.specs.Lowest.{HasNone};
 ghost use Rattle.flow_shape.specs.Links.{AreWithin, IsOrder};
 ghost use Rattle.flow_shape.specs.Ports.{WrongPorts};
 ghost use Rattle.flow_shape.specs.Refusals.{HasOnlyKnown, chart_of, Fits, IsFirstFault};

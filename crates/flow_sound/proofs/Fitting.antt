@@ -21,7 +21,7 @@ use Rattle.flow_graph.specs.Runs.{FitsShape, Out, RouteFits}
 use Rattle.flow_graph.specs.Shapes.{FitsPorts, HasPort, IsShaped, KeysDistinct, RowShape, Wide}
 use Rattle.flow_graph.proofs.RowShapes.{copy_shape, sink_shape}
 use Rattle.flow_rules.specs.Verdicts.{node_at, written_or_same}
-use Rattle.flow_shape.specs.Options.{first_fields, import_fields, line_fields, output_fields}
+use Rattle.op_shape.specs.Options.{first_fields, import_fields, line_fields, output_fields}
 use Rattle.flow_shape.specs.Refusals.{Fits, fields_at, inputs_at, kind_at}
 use Rattle.flow_sound.specs.Fitting.{RowsFit}
 use Rattle.flow_sound.specs.Kinds.{IsOfKind, LineFits}

@@ -15,7 +15,7 @@ use Rattle.flow_graph.specs.Charts.{keys_at, link_at, links_from, links_into, op
 use Rattle.flow_graph.specs.Operators.{Op, result}
 use Rattle.flow_graph.specs.Runs.{Means, Out}
 use Rattle.flow_graph.proofs.PartLaws.{parts_all}
-use Rattle.flow_shape.specs.Options.{first_fields, output_fields}
+use Rattle.op_shape.specs.Options.{first_fields, output_fields}
 use Rattle.flow_shape.specs.Refusals.{fields_at, inputs_at}
 use Rattle.flow_sound.specs.Fitting.{ExportsFit, MeaningFits, RowsFit}
 use Rattle.flow_sound.specs.Kinds.{IsOfKind, first_into}

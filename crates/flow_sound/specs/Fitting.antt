@@ -1,5 +1,5 @@
 -- Rows against the schemas of their links.
-use Rattle.std.specs.Prelude.{◌≡◌, ◌<◌, ℕ, Bool, true, List, length}
+use Rattle.std.specs.Prelude.{◌≡◌, ◌<◌, ℕ, Bool, true, List, length, ⊤}
 use Rattle.std.specs.List.{AllByRecursion}
 use Rattle.ds_schema.specs.declared.schema.Field.{Field}
 use Rattle.ds_schema.specs.Schemas.{row_fits}
@@ -8,11 +8,15 @@ use Rattle.flow_graph.specs.declared.flow.Flow.{Flow}
 use Rattle.flow_graph.specs.declared.parts.Stored.{Stored}
 use Rattle.flow_graph.specs.declared.route.Choice.{Choice}
 use Rattle.flow_graph.specs.declared.state.State.{State}
+use Rattle.flow_graph.specs.declared.op_kind.OpKind.{OpKind}
+use Rattle.flow_graph.specs.declared.op_kind.OpKind.TheVariants as kind
 use Rattle.flow_graph.specs.Charts.{Chart, op_at}
+use Rattle.flow_graph.specs.Fitting.{KeepsFields}
+use Rattle.flow_graph.specs.FlowShape.{IsShape}
 use Rattle.flow_graph.specs.Operators.{Op}
 use Rattle.flow_graph.specs.Runs.{Lists, Means}
 use Rattle.flow_rules.specs.Verdicts.{nodes_of}
-use Rattle.flow_shape.specs.Refusals.{fields_at}
+use Rattle.flow_shape.specs.Refusals.{IsShapeOf, fields_at}
 use Rattle.flow_sound.specs.Kinds.{IsExport, first_into}
 use Rattle.flow_sound.specs.Promise.{AcceptedRun, ShapedFlow}
 
@@ -29,3 +33,15 @@ MeaningFits = (flow : Flow) (dict : List Stored) (c : Chart) (ops : ℕ → Op) 
 abbrev pub ExportsFit : Type 0
 ExportsFit = (regains : Bool) (flow : Flow) (dict : List Stored) (c : Chart) (states : List State) (choices : List Choice) (ops : ℕ → Op) (whole : ℕ → List Row) (run : Lists) → AcceptedRun regains flow dict c states choices ops whole run →
     (o : ℕ) → o < length c.flow.ops → IsExport (op_at c o).kind → AllByRecursion (RowsFit (fields_at c (first_into c o))) (run.got (first_into c o))
+
+-- whether an operator works row by row on the fields of its input
+abbrev pub IsByRow : OpKind → Type 0
+IsByRow (kind.Filter test reject) = ⊤
+IsByRow (kind.Transform set reject) = ⊤
+IsByRow (kind.Modify keep drop rename) = ⊤
+IsByRow (kind.Switch on cases reject) = ⊤
+IsByRow k = ⊥
+
+-- Such an operator of a shaped flow makes rows that fit of rows that fit.
+abbrev pub RowsStay : Type 0
+RowsStay = (flow : Flow) (dict : List Stored) (c : Chart) → IsShape c → IsShapeOf flow dict c → (o : ℕ) → o < length c.flow.ops → IsByRow (op_at c o).kind → KeepsFields c o

@@ -8,7 +8,7 @@ use Rattle.op_base.specs.Columns.{Row}
 use Rattle.ds_place.specs.declared.place.Place.TheVariants.{Hash}
 use Rattle.ds_place.specs.Places.{fnv, place_number}
 use Rattle.flow_graph.specs.declared.route.Route.TheVariants as route
-use Rattle.flow_graph.specs.Placing.{fnv as flow_fnv}
+use Rattle.ds_place.specs.Places.{fnv as flow_fnv}
 use Rattle.list_run.specs.Dealt.{dealt}
 use Rattle.list_run.specs.Routed.{routed, SuitsRoute, SuitsPlace}
 use Rattle.list_run.proofs.Dealing.{dealt_same}

@@ -4,10 +4,10 @@ use Rattle.op_base.specs.Columns.{Row}
 use Rattle.op_base.specs.Lists.{joined}
 use Rattle.op_base.proofs.Interleavings.{joined_interleaves}
 use Rattle.flow_graph.specs.Destinations.{SentFrom}
-use Rattle.flow_graph.specs.declared.place.Place.TheVariants as place
+use Rattle.ds_place.specs.declared.place.Place.TheVariants as place
 use Rattle.flow_graph.specs.declared.route.Route.{Route}
 use Rattle.flow_graph.specs.declared.route.Route.TheVariants as route
-use Rattle.flow_graph.specs.Placing.{place_number}
+use Rattle.ds_place.specs.Places.{place_number}
 use Rattle.flow_graph.specs.Runs.{Arrives}
 use Rattle.list_run.specs.Dealt.{dealt}
 use Rattle.list_run.specs.Routed.{Joins, routed}

@@ -14,11 +14,11 @@ use Rattle.op_order.specs.Ordered.{same_key}
 use Rattle.flow_graph.specs.Destinations.{lane, lanes_to}
 use Rattle.flow_graph.specs.declared.op_kind.OpKind.{OpKind}
 use Rattle.flow_graph.specs.declared.op_kind.OpKind.TheVariants as kind
-use Rattle.flow_graph.specs.declared.place.Place.TheVariants as place
+use Rattle.ds_place.specs.declared.place.Place.TheVariants as place
 use Rattle.flow_graph.specs.declared.route.Route.{Route}
 use Rattle.flow_graph.specs.declared.route.Route.TheVariants as route
 use Rattle.flow_graph.specs.declared.route.Choice.{Choice}
-use Rattle.flow_graph.specs.Placing.{place_number}
+use Rattle.ds_place.specs.Places.{place_number}
 use Rattle.flow_graph.specs.Runs.{arranged_if}
 use Rattle.list_run.specs.Dealt.{dealt}
 use Rattle.list_run.specs.Made.{made}

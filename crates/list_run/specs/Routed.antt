@@ -6,11 +6,11 @@ use Rattle.ds_place.specs.declared.place.Place.{Place}
 use Rattle.ds_place.specs.Places.{columns_read, HoldsWhole}
 use Rattle.op_base.specs.Columns.{Row}
 use Rattle.op_base.specs.Lists.{joined}
-use Rattle.flow_graph.specs.declared.place.Place.TheVariants as place
+use Rattle.ds_place.specs.declared.place.Place.TheVariants as place
 use Rattle.flow_graph.specs.declared.route.Route.{Route}
 use Rattle.flow_graph.specs.declared.route.Route.TheVariants as route
 use Rattle.flow_graph.specs.declared.route.Choice.{Choice}
-use Rattle.flow_graph.specs.Placing.{place_number}
+use Rattle.ds_place.specs.Places.{place_number}
 use Rattle.flow_graph.specs.Runs.{arranged_if}
 use Rattle.list_run.specs.Dealt.{dealt}
 

@@ -1,9 +1,10 @@
 -- The flows that are run here, the operators of such a flow, and what a run leaves.
-use Rattle.std.specs.Prelude.{◌≡◌, ℕ, ◌<◌, ◌-◌, ◌^◌, min, Bool, true, cond, List, [], length, map, get_or, All, ⊤}
-use Rattle.std.specs.List.{AllByRecursion}
-use Rattle.ds_value.specs.Canonical.{IsShort}
+use Rattle.std.specs.Prelude.{◌≡◌, ℕ, ◌<◌, ◌-◌, ◌^◌, min, Bool, true, cond, List, [], length, map, get_or, All, ⊤, None}
+use Rattle.std.specs.List.{AllByRecursion, flat_map, range_with_len}
+use Rattle.std.specs.List.Sorted.{IsPermutation}
 use Rattle.op_base.specs.declared.fault.Fault.{Fault}
 use Rattle.op_base.specs.Columns.{Row, IsIn}
+use Rattle.op_base.specs.Emits.{counted, least_of}
 use Rattle.op_base.specs.Keyed.{get_keys}
 use Rattle.op_base.specs.Lists.{joined}
 use Rattle.op_base.specs.Meanings.{Line}
@@ -11,9 +12,11 @@ use Rattle.op_base.specs.RowOperators.{copy_rule, sink_rule}
 use Rattle.flow_graph.specs.declared.op_kind.OpKind.{OpKind}
 use Rattle.flow_graph.specs.declared.op_kind.OpKind.TheVariants as kind
 use Rattle.flow_graph.specs.declared.route.Choice.{Choice}
-use Rattle.flow_graph.specs.Charts.{Chart, link_at, all_links, width_at, links_into, links_from, op_at, is_seq, into_seq, keys_at, first_width}
+use Rattle.flow_graph.specs.Charts.{Chart, link_at, all_links, links_into, links_from, op_at, is_seq, into_seq, keys_at, parts_of}
+use Rattle.flow_graph.specs.Fitting.{FitsFields, KeepsFields, PassesFields}
 use Rattle.flow_graph.specs.FlowShape.{IsShape}
 use Rattle.flow_graph.specs.Operators.{Op, import, by_row, tsort, remdup, result}
+use Rattle.flow_graph.specs.RowRules.{if_worked, row_rule}
 use Rattle.flow_graph.specs.Runs.{Lists, Runs}
 use Rattle.flow_rules.specs.Verdicts.{choice_at, nodes_of}
 use Rattle.list_run.specs.declared.ran.Ran.{Ran}
@@ -26,22 +29,18 @@ degree_at c nodes o = cond (is_seq (op_at c o).mark) 1 nodes
 abbrev pub first_into : Chart → ℕ → ℕ
 first_into c o = get_or (links_into c o) 0 0
 
--- each output has as many columns as the input
-abbrev pub Passes : Chart → ℕ → Type 0
-Passes c o = (l : ℕ) → IsIn l (links_from c o) → width_at c l ≡ first_width c o
-
--- import, copy, tsort, remdup and export are run
+-- import, copy, filter, transform, modify, switch, tsort, remdup and export are run
 abbrev pub IsBuilt : Chart → ℕ → OpKind → Type 0
 IsBuilt c o (kind.Import file schema delim fixed reject) = is_seq (op_at c o).mark ≡ true
 IsBuilt c o (kind.Export file delim fixed) = links_from c o ≡ []
-IsBuilt c o kind.Copy = Passes c o
-IsBuilt c o (kind.Tsort key) = Passes c o
-IsBuilt c o (kind.Remdup key last) = Passes c o
+IsBuilt c o kind.Copy = PassesFields c o
+IsBuilt c o (kind.Filter test reject) = KeepsFields c o
+IsBuilt c o (kind.Transform set reject) = KeepsFields c o
+IsBuilt c o (kind.Modify keep drop rename) = KeepsFields c o
+IsBuilt c o (kind.Switch on cases reject) = KeepsFields c o
+IsBuilt c o (kind.Tsort key) = PassesFields c o
+IsBuilt c o (kind.Remdup key last) = PassesFields c o
 IsBuilt c o k = ⊥
-
--- a row of some columns, whose texts a hash can count
-abbrev pub IsRow : ℕ → Row → Type 0
-IsRow width r = (length r ≡ width) × All IsShort r
 
 -- a flow with its choices, and by link the rows that imports put there
 pub record CanRun (c : Chart) (choices : List Choice) (nodes : ℕ) (sources : List (List Row)) : Type 0 where
@@ -50,7 +49,7 @@ pub record CanRun (c : Chart) (choices : List Choice) (nodes : ℕ) (sources : L
   pub built : (o : ℕ) → o < length c.flow.ops → IsBuilt c o (op_at c o).kind
   pub joins : (l : ℕ) → l < length c.flow.links → Joins (into_seq c l) (choice_at c l).method (degree_at c nodes (link_at c l).from) (degree_at c nodes (link_at c l).to)
   pub given : length sources ≡ length c.flow.links
-  pub rows : (l : ℕ) → l < length c.flow.links → All (IsRow (width_at c l)) (get_or sources l [])
+  pub rows : (l : ℕ) → l < length c.flow.links → All (FitsFields (get_or c.schemas l [])) (get_or sources l [])
 
 -- the same of a shaped flow
 pub record IsRunnable (c : Chart) (choices : List Choice) (nodes : ℕ) (sources : List (List Row)) : Type 0 where
@@ -65,6 +64,10 @@ abbrev pub OpIs : Chart → List (List Row) → ℕ → Op → OpKind → Type 0
 OpIs c sources o op (kind.Import file schema delim fixed reject) = IsImport op × ((l : ℕ) → IsIn l (links_from c o) → result op (link_at c l).out [] ≡ get_or sources l [])
 OpIs c sources o op (kind.Export file delim fixed) = (unwritable : Row → List Fault) × (op ≡ by_row (sink_rule unwritable))
 OpIs c sources o op kind.Copy = op ≡ by_row copy_rule
+OpIs c sources o op (kind.Filter test reject) = op ≡ by_row (row_rule o (kind.Filter test reject) (parts_of c o))
+OpIs c sources o op (kind.Transform set reject) = op ≡ by_row (row_rule o (kind.Transform set reject) (parts_of c o))
+OpIs c sources o op (kind.Modify keep drop rename) = op ≡ by_row (row_rule o (kind.Modify keep drop rename) (parts_of c o))
+OpIs c sources o op (kind.Switch on cases reject) = op ≡ by_row (row_rule o (kind.Switch on cases reject) (parts_of c o))
 OpIs c sources o op (kind.Tsort key) = op ≡ tsort (get_keys (keys_at c o) 0)
 OpIs c sources o op (kind.Remdup key last) = op ≡ remdup last (get_keys (keys_at c o) 0)
 OpIs c sources o op k = ⊥
@@ -80,10 +83,22 @@ IsExport k = ⊥
 abbrev pub row_count : List (List Row) → ℕ
 row_count lists = min (length (joined lists)) (2 ^ 63 - 1)
 
--- what is left is of a legal run: the numbers of rows that were put on the links, before they were routed, and what came at the exports
+-- the faults of the operators by rows, by the numbers of the operators
+abbrev pub worked_faults : Chart → Lists → List Fault
+worked_faults c run = flat_map (λ o. if_worked (op_at c o).kind (joined (run.failed o))) (range_with_len 0 (length c.flow.ops))
+
+-- how many these faults are, as far as they are counted, and the least of them, in whatever order
+pub record Counts (faults : List Fault) (ran : Ran) : Type 0 where
+  pub found : List Fault
+  pub same : IsPermutation found faults
+  pub number : ran.faults ≡ counted 0 (length found)
+  pub least : ran.least ≡ least_of None found
+
+-- what is left is of a legal run: the numbers of rows that were put on the links, before they were routed, what came at the exports, and the faults of the operators by rows
 pub record IsRunOf (c : Chart) (nodes : ℕ) (ops : ℕ → Op) (ran : Ran) : Type 0 where
   pub run : Lists
   pub legal : AllByRecursion (Runs (λ l. (choice_at c l).sort) run) (nodes_of c ops)
   pub degrees : (l : ℕ) → l < length c.flow.links → (length (run.sent l) ≡ degree_at c nodes (link_at c l).from) × (length (run.got l) ≡ degree_at c nodes (link_at c l).to)
   pub counts : ran.counts ≡ map (λ l. row_count (run.sent l)) (all_links c)
   pub sinks : (o : ℕ) → o < length c.flow.ops → IsExport (op_at c o).kind → get_or ran.sinks o [] ≡ run.got (first_into c o)
+  pub faults : Counts (worked_faults c run) ran

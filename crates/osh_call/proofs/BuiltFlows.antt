@@ -22,7 +22,7 @@ use Rattle.flow_graph.specs.Forms.{sort_key}
 use Rattle.flow_rules.specs.Verdicts.{IsRouted, unsorted, routed_at}
 use Rattle.flow_shape.proofs.Causing.{all_at}
 use Rattle.flow_shape.specs.Methods.{written_route}
-use Rattle.flow_shape.specs.Options.{IsKnown, operator_keys}
+use Rattle.op_shape.specs.Options.{IsKnown, operator_keys}
 use Rattle.flow_shape.specs.Refusals.{HasOnlyKnown, IsShapeOf, written_at, parts_at, inputs_at, fields_at}
 use Rattle.osh_ends.specs.Built.{is_built, is_built_op, is_built_link, is_built_method, needs_sort}
 

@@ -7,9 +7,9 @@ use Rattle.ds_text.specs.Forms.{FormFits, IsDelimiter, IsWidth}
 use Rattle.flow_graph.specs.Charts.{Chart, links_into, op_at}
 use Rattle.flow_graph.specs.declared.op_kind.OpKind.{OpKind}
 use Rattle.flow_graph.specs.declared.op_kind.OpKind.TheVariants as kind
-use Rattle.flow_shape.specs.declared.fault.ShapeWhy.TheVariants as why
-use Rattle.flow_shape.specs.Causes.{cause_if, first_cause}
-use Rattle.flow_shape.specs.Options.{option_causes, output_causes, widths_cause}
+use Rattle.op_shape.specs.declared.fault.ShapeWhy.TheVariants as why
+use Rattle.op_shape.specs.Causes.{cause_if, first_cause}
+use Rattle.op_shape.specs.Options.{option_causes, output_causes, widths_cause}
 use Rattle.flow_shape.specs.Refusals.{Fits, input_cause, inputs_at}
 use Rattle.flow_shape.proofs.Sound.{none_both}
 use Rattle.osh_ends.specs.FlowFiles.{fields_of, form, input_of}

@@ -1,10 +1,6 @@
--- The flows that are built: which operators, columns, methods and flags a flow may have today.
-use Rattle.std.specs.Prelude.{ℕ, Bool, true, false, not, ◌&&◌, ◌==◌, List, [], ◌∷◌, get_or, Option, Some, None}
+-- The flows that are built: which operators, methods and flags a flow may have today.
+use Rattle.std.specs.Prelude.{ℕ, Bool, true, false, not, ◌&&◌, List, [], ◌∷◌, get_or}
 use Rattle.std.specs.List.{list_all}
-use Rattle.std.specs.Option.{is_none}
-use Rattle.ds_value.specs.declared.kind.Kind.{Kind}
-use Rattle.ds_value.specs.declared.kind.Kind.TheVariants as data_kind
-use Rattle.ds_schema.specs.declared.schema.Field.{Field}
 use Rattle.flow_graph.specs.Charts.{no_op, is_seq}
 use Rattle.flow_graph.specs.declared.flow.Flag.{Flag}
 use Rattle.flow_graph.specs.declared.flow.Flag.TheVariants as flag
@@ -16,25 +12,15 @@ use Rattle.flow_graph.specs.declared.flow.OpSpec.{OpSpec}
 use Rattle.flow_graph.specs.declared.op_kind.OpKind.{OpKind}
 use Rattle.flow_graph.specs.declared.op_kind.OpKind.TheVariants as kind
 
--- int32 and string[max=n]
-abbrev pub is_built_kind : Kind → Bool
-is_built_kind (data_kind.Int bits) = bits == 32
-is_built_kind (data_kind.UInt bits) = false
-is_built_kind (data_kind.Dec p s) = false
-is_built_kind (data_kind.Text max fixed) = not fixed
-is_built_kind data_kind.Date = false
-
-abbrev pub is_built_field : Field → Bool
-is_built_field f = not f.nullable && is_built_kind f.kind
-
--- fields with commas between them
-abbrev pub has_commas : ℕ → Option (List ℕ) → Bool
-has_commas delim fixed = (delim == 44) && is_none fixed
-
+-- import, export, copy, filter, transform, modify, switch, tsort and remdup
 abbrev pub is_built_op : OpKind → Bool
-is_built_op (kind.Import file schema delim fixed reject) = list_all is_built_field schema && (has_commas delim fixed && not reject)
-is_built_op (kind.Export file delim fixed) = has_commas delim fixed
+is_built_op (kind.Import file schema delim fixed reject) = true
+is_built_op (kind.Export file delim fixed) = true
 is_built_op kind.Copy = true
+is_built_op (kind.Filter test reject) = true
+is_built_op (kind.Transform set reject) = true
+is_built_op (kind.Modify keep drop rename) = true
+is_built_op (kind.Switch on cases reject) = true
 is_built_op (kind.Tsort key) = true
 is_built_op (kind.Remdup key last) = true
 is_built_op k = false

@@ -25,7 +25,7 @@ use Rattle.flow_rules.specs.declared.verdict.Verdict.TheVariants.{Accepted, Refu
 use Rattle.flow_rules.specs.Verdicts.{IsVerdict, state_at, nodes_of}
 use Rattle.flow_score.specs.Scores.{IsMismatch}
 use Rattle.flow_score.specs.Seating.{Seats, Crowds}
-use Rattle.flow_shape.specs.declared.fault.ShapeWhy.{ShapeWhy}
+use Rattle.op_shape.specs.declared.fault.ShapeWhy.{ShapeWhy}
 use Rattle.flow_shape.specs.Refusals.{IsShapeOf, Refuses}
 use Rattle.osh_read.specs.declared.fault.OshWhy.{OshWhy}
 use Rattle.osh_read.specs.Flows.{flow_of}

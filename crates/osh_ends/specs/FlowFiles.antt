@@ -11,8 +11,9 @@ use Rattle.ds_text.specs.declared.form.Form.{Form}
 use Rattle.ds_text.specs.declared.form.Form.TheVariants.{Delimited, Fixed}
 use Rattle.flow_files.specs.Lines.{AreLines, beyond}
 use Rattle.flow_files.specs.Texts.{export_faults}
-use Rattle.flow_graph.specs.Charts.{Chart, op_at, keys_at, links_into}
+use Rattle.flow_graph.specs.Charts.{Chart, op_at, keys_at, parts_of, links_into}
 use Rattle.flow_graph.specs.Operators.{Op, import, by_row, tsort, remdup}
+use Rattle.flow_graph.specs.RowRules.{row_rule}
 use Rattle.flow_graph.specs.Runs.{Means}
 use Rattle.flow_graph.specs.declared.flow.OpSpec.{OpSpec}
 use Rattle.flow_graph.specs.declared.op_kind.OpKind.{OpKind}
@@ -55,6 +56,10 @@ IsOp files c o (kind.Import file schema delim fixed reject) op =
     (bytes : List ℕ) × (lines : List Line) × (file_at files file ≡ Some bytes) × AreLines (form delim fixed) schema o bytes lines × (op ≡ import lines reject (beyond o bytes))
 IsOp files c o (kind.Export file delim fixed) op = op ≡ by_row (sink_rule (export_faults o (form delim fixed) (fields_of c (input_of c o))))
 IsOp files c o kind.Copy op = op ≡ by_row copy_rule
+IsOp files c o (kind.Filter test reject) op = op ≡ by_row (row_rule o (kind.Filter test reject) (parts_of c o))
+IsOp files c o (kind.Transform set reject) op = op ≡ by_row (row_rule o (kind.Transform set reject) (parts_of c o))
+IsOp files c o (kind.Modify keep drop rename) op = op ≡ by_row (row_rule o (kind.Modify keep drop rename) (parts_of c o))
+IsOp files c o (kind.Switch on cases reject) op = op ≡ by_row (row_rule o (kind.Switch on cases reject) (parts_of c o))
 IsOp files c o (kind.Tsort key) op = op ≡ tsort (get_keys (keys_at c o) 0)
 IsOp files c o (kind.Remdup key last) op = op ≡ remdup last (get_keys (keys_at c o) 0)
 IsOp files c o k op = ⊥

@@ -3,53 +3,23 @@
 ghost use Rattle.std.specs.Prelude.{◌≡◌, ◌&&◌, not};
 ghost use Rattle.std.specs.List.{list_all};
 ghost use Rattle.flow_graph.specs.Charts.{is_seq as is_sequential};
-ghost use Rattle.osh_ends.specs.Built.{is_built_kind, is_built_field, has_commas, is_built_op, needs_sort, is_prop, is_built_method, op_in, is_built_link, is_built};
+ghost use Rattle.osh_ends.specs.Built.{is_built_op, needs_sort, is_prop, is_built_method, op_in, is_built_link, is_built};
 
-use ds_schema::Field;
-use ds_value::{Items, Kind};
 use flow_graph::{Flag, Flow, LinkSpec, Mark, Method, OpKind, OpSpec};
-
-fn is_built_kind(kind: Kind) -> bool
-    ensures { result ≡ is_built_kind kind }
-{
-    match kind {
-        Kind::Int(bits) => bits == 32,
-        Kind::Text { fixed, .. } => !fixed,
-        _ => false,
-    }
-}
-
-fn is_built_field(field: &Field) -> bool
-    ensures { result ≡ is_built_field field.now }
-{
-    !field.nullable && is_built_kind(field.kind)
-}
-
-fn are_built_fields(fields: &[Field]) -> bool
-    ensures { result ≡ list_all is_built_field fields.now }
-{
-    fields.iter().all(|field| is_built_field(field))
-}
-
-fn has_commas(delim: u8, fixed: &Option<Items<u32>>) -> bool
-    ensures { result ≡ has_commas delim fixed.now }
-{
-    delim == b',' && fixed.is_none()
-}
 
 fn is_built_op(kind: &OpKind) -> bool
     ensures { result ≡ is_built_op kind.now }
 {
     match kind {
-        OpKind::Import {
-            schema,
-            delim,
-            fixed,
-            reject,
-            ..
-        } => are_built_fields(schema.as_slice()) && has_commas(*delim, fixed) && !*reject,
-        OpKind::Export { delim, fixed, .. } => has_commas(*delim, fixed),
-        OpKind::Copy | OpKind::Tsort { .. } | OpKind::Remdup { .. } => true,
+        OpKind::Import { .. }
+        | OpKind::Export { .. }
+        | OpKind::Copy
+        | OpKind::Filter { .. }
+        | OpKind::Transform { .. }
+        | OpKind::Modify { .. }
+        | OpKind::Switch { .. }
+        | OpKind::Tsort { .. }
+        | OpKind::Remdup { .. } => true,
         _ => false,
     }
 }

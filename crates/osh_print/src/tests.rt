@@ -307,12 +307,18 @@ fn flows_read_back(rt: HostRuntime) -> Result<(), Fail> {
     Ok(())
 }
 
+fn bytes(alloc: Global, text: &str) -> Result<Bytes, Fail> {
+    let mut bytes = Bytes::new(alloc);
+    bytes.append(text.as_bytes())?;
+    Ok(bytes)
+}
+
 fn set(alloc: Global, schema: &str, expr: &str) -> Result<SetSpec, Fail> {
     let schema = read_schema(alloc, schema.as_bytes())?;
     let field = schema.as_slice().first().ok_or("field")?.copied()?;
     Ok(SetSpec {
         field,
-        expr: Bytes::from_slice(alloc, expr.as_bytes())?,
+        expr: bytes(alloc, expr)?,
     })
 }
 
@@ -334,7 +340,7 @@ fn switch(alloc: Global) -> Result<OpKind, Fail> {
         cases.push(case)?;
     }
     Ok(OpKind::Switch {
-        on: Bytes::from_slice(alloc, b"a % 3")?,
+        on: bytes(alloc, "a % 3")?,
         cases,
         reject: false,
     })
@@ -342,7 +348,7 @@ fn switch(alloc: Global) -> Result<OpKind, Fail> {
 
 fn filter(alloc: Global, test: &str, reject: bool) -> Result<OpKind, Fail> {
     Ok(OpKind::Filter {
-        test: Bytes::from_slice(alloc, test.as_bytes())?,
+        test: bytes(alloc, test)?,
         reject,
     })
 }

@@ -14,6 +14,11 @@ pub mod MethodsRead
 pub mod OptionsRead
 pub mod StagesRead
 pub mod FlowsRead
+pub mod KeptTokens
+pub mod ExprsShifted
+pub mod ExpressionsBack
+pub mod FieldsPrinted
+pub mod SetsBack
 pub mod ValuesBack
 pub mod OptionsPrinted
 pub mod OperatorsWritten

@@ -20,7 +20,7 @@ use Rattle.flow_graph.specs.FlowShape.{FormPorts, IsShape, WrittenFits}
 use Rattle.flow_rules.specs.Verdicts.{choice_at, written_or_same}
 use Rattle.flow_score.specs.Scores.{choice_of, degree, degree_at as score_degree, is_same, no_choice}
 use Rattle.flow_shape.specs.Methods.{written_route}
-use Rattle.flow_shape.specs.Options.{first_fields, output_fields}
+use Rattle.op_shape.specs.Options.{first_fields, output_fields}
 use Rattle.flow_shape.specs.Ports.{may_have_out}
 use Rattle.flow_shape.specs.Refusals.{fields_at, inputs_at, written_at}
 use Rattle.flow_shape.proofs.Causing.{all_at}

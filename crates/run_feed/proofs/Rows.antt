@@ -10,7 +10,7 @@ use Rattle.ds_schema.specs.Schemas.{IsField, row_fits}
 use Rattle.op_base.specs.Columns.{Row}
 use Rattle.flow_files.specs.Lines.{AllFit, AreOfLines, line_row}
 use Rattle.flow_files.proofs.Rows.{row_is_short}
-use Rattle.flow_shape.specs.Options.{line_fields}
+use Rattle.op_shape.specs.Options.{line_fields}
 use Rattle.run_feed.specs.Sources.{FitsFields}
 
 few_bytes : (line : List ℕ) → length (take 65536 line) ≤ 65536

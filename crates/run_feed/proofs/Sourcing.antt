@@ -23,7 +23,7 @@ use Rattle.flow_graph.specs.declared.op_kind.OpKind.TheVariants as kind
 use Rattle.flow_graph.specs.Charts.{Chart, keys_at, link_at, links_from, op_at, width_at}
 use Rattle.flow_graph.specs.FlowShape.{IsShape}
 use Rattle.flow_graph.specs.Operators.{Op, by_row, import, remdup, result, tsort}
-use Rattle.flow_shape.specs.Options.{import_fields, line_fields, output_fields}
+use Rattle.op_shape.specs.Options.{import_fields, line_fields, output_fields}
 use Rattle.flow_shape.specs.Refusals.{IsShapeOf, inputs_at}
 use Rattle.flow_sound.specs.Kinds.{AreOfKinds, IsOfKind, LineFits}
 use Rattle.flow_sound.proofs.Fitting.{fits_long, given_there}

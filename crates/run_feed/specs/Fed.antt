@@ -1,7 +1,10 @@
 -- What a run needs, and what it has when its lists are done and nothing is written yet.
 use Rattle.std.specs.Prelude.{◌≡◌, ◌<◌, ◌-◌, ◌^◌, min, ℕ, true, false, List, [], length, map, get_or}
-use Rattle.std.specs.List.{AllByRecursion, flat_map}
+use Rattle.std.specs.List.{AllByRecursion}
+use Rattle.std.specs.List.Sorted.{IsPermutation}
+use Rattle.op_base.specs.declared.fault.Fault.{Fault}
 use Rattle.op_base.specs.Columns.{Row}
+use Rattle.op_base.specs.Lists.{joined}
 use Rattle.ds_port.specs.FileMap.{FileMap}
 use Rattle.flow_files.specs.declared.tally.Tally.{Tally}
 use Rattle.flow_files.specs.Tallies.{Grows}
@@ -13,11 +16,11 @@ use Rattle.flow_graph.specs.Runs.{Lists}
 use Rattle.flow_rules.specs.declared.verdict.Verdict.TheVariants.{Accepted}
 use Rattle.flow_rules.specs.Verdicts.{IsVerdict}
 use Rattle.flow_score.specs.Seating.{Seats}
-use Rattle.flow_shape.specs.Refusals.{IsShapeOf, fields_at, all_ops}
+use Rattle.flow_shape.specs.Refusals.{IsShapeOf, fields_at}
 use Rattle.flow_sound.specs.Fitting.{RowsFit}
 use Rattle.flow_sound.specs.Kinds.{IsExport, first_into}
 use Rattle.flow_sound.specs.Promise.{AcceptedRun}
-use Rattle.flow_sound.specs.Tallies.{faults_read}
+use Rattle.flow_sound.specs.Tallies.{faults_before}
 use Rattle.list_run.specs.declared.ran.Ran.{Ran}
 use Rattle.osh_ends.specs.Built.{is_built}
 use Rattle.osh_ends.specs.Ends.{MeetsGrades}
@@ -40,7 +43,7 @@ pub record IsReady (c : Chart) (choices : List Choice) (nodes : ℕ) : Type 0 wh
 abbrev pub SinksFit : Chart → Ran → Type 0
 SinksFit c ran = (o : ℕ) → o < length c.flow.ops → IsExport (op_at c o).kind → AllByRecursion (RowsFit (fields_at c (first_into c o))) (get_or ran.sinks o [])
 
--- the lists of a legal run of the flow over these files: the rows that the meaning has are counted on each link, what came at the exports is there, and the faults of the imports were tallied
+-- the lists of a legal run of the flow over these files: the rows that the meaning has are counted on each link, what came at the exports is there, and the faults of the imports and of the operators by rows were tallied
 pub record Fed (files : FileMap) (c : Chart) (states : List State) (choices : List Choice) (ran : Ran) (old new : Tally) : Type 0 where
   pub ops : ℕ → Op
   pub whole : ℕ → List Row
@@ -50,4 +53,6 @@ pub record Fed (files : FileMap) (c : Chart) (states : List State) (choices : Li
   pub counts : ran.counts ≡ map (λ l. min (length (whole l)) (2 ^ 63 - 1)) (all_links c)
   pub sinks : (o : ℕ) → o < length c.flow.ops → IsExport (op_at c o).kind → get_or ran.sinks o [] ≡ run.got (first_into c o)
   pub grades : MeetsGrades c states whole run.got
-  pub tally : Grows old new (flat_map (faults_read c ops) (all_ops c))
+  pub found : List Fault
+  pub same : IsPermutation found (faults_before c ops (λ l. joined (run.got l)))
+  pub tally : Grows old new found

@@ -1,9 +1,7 @@
 -- What imports have of their files: by operator, then by link.
 use Rattle.std.specs.Prelude.{◌≡◌, ◌<◌, ◌==◌, ◌&&◌, not, if◌then◌else◌, ℕ, zero, suc, Bool, true, false, List, [], length, get_or, All, Some}
 use Rattle.std.specs.List.{flat_map, range_with_len, AllByRecursion}
-use Rattle.ds_value.specs.Canonical.{IsShort}
 use Rattle.ds_schema.specs.declared.schema.Field.{Field}
-use Rattle.ds_schema.specs.Schemas.{row_fits}
 use Rattle.ds_port.specs.FileMap.{FileMap, file_at}
 use Rattle.ds_text.specs.Forms.{FormFits}
 use Rattle.op_base.specs.Columns.{Row}
@@ -13,13 +11,14 @@ use Rattle.flow_files.specs.Tallies.{Grows}
 use Rattle.flow_graph.specs.declared.flow.LinkSpec.{LinkSpec}
 use Rattle.flow_graph.specs.declared.op_kind.OpKind.{OpKind}
 use Rattle.flow_graph.specs.declared.op_kind.OpKind.TheVariants as kind
-use Rattle.flow_graph.specs.Charts.{Chart, op_at, link_at, width_at}
+use Rattle.flow_graph.specs.Charts.{Chart, op_at, link_at}
+use Rattle.flow_graph.specs.Fitting.{FitsFields}
 use Rattle.flow_graph.specs.Operators.{Op, result}
-use Rattle.flow_shape.specs.Options.{line_fields}
+use Rattle.op_shape.specs.Options.{line_fields}
 use Rattle.flow_shape.specs.Refusals.{all_ops}
 use Rattle.flow_sound.specs.Kinds.{AreOfKinds}
 use Rattle.flow_sound.specs.Tallies.{faults_read}
-use Rattle.list_run.specs.Runnable.{IsRow, OpsAre}
+use Rattle.list_run.specs.Runnable.{OpsAre}
 use Rattle.osh_ends.specs.FlowFiles.{IsOp, form}
 
 -- the form of an import's file suits its columns
@@ -31,10 +30,6 @@ CanRead k = Unit {0}
 abbrev pub ReadsFile : FileMap → ℕ → OpKind → List Row → List Row → Tally → Tally → Type 0
 ReadsFile files o (kind.Import file schema delim fixed reject) rows rejected old new = (bytes : List ℕ) × (file_at files file ≡ Some bytes) × Imports (form delim fixed) schema o reject bytes rows rejected old new
 ReadsFile files o k rows rejected old new = (rows ≡ []) × (rejected ≡ []) × Grows old new []
-
--- a row fits its fields, and its texts are short
-abbrev pub FitsFields : List Field → Row → Type 0
-FitsFields fields r = (row_fits fields r ≡ true) × All IsShort r
 
 -- the rows of an import fit its schema, and a row of a line the fields of rejected lines; no line is rejected unless the import says so, and another operator has no rows
 abbrev pub RowsSuit : OpKind → List Row → List Row → Type 0
@@ -76,7 +71,7 @@ is_same a b = (a.from == b.from) && (if a.out == 0 then b.out == 0 else not (b.o
 -- the rows by link suit a run, whatever the files hold
 pub record CanFeed (c : Chart) (sources : List (List Row)) : Type 0 where
   pub given : length sources ≡ length c.flow.links
-  pub rows : (l : ℕ) → l < length c.flow.links → All (IsRow (width_at c l)) (get_or sources l [])
+  pub rows : (l : ℕ) → l < length c.flow.links → All (FitsFields (get_or c.schemas l [])) (get_or sources l [])
   pub kinds : (ops : ℕ → Op) × AreOfKinds c ops × OpsAre c sources ops
 
 -- the rows by link are those of the files, whose faults were tallied

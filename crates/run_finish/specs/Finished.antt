@@ -1,8 +1,8 @@
 -- The end of a run whose lists are done.
 use Rattle.std.specs.Prelude.{◌≡◌, ◌<◌, ℕ, Bool, false, List, [], length}
-use Rattle.std.specs.List.{flat_map}
 use Rattle.ds_port.specs.FileMap.{FileMap}
 use Rattle.op_base.specs.Columns.{Row}
+use Rattle.op_base.specs.Lists.{joined}
 use Rattle.flow_files.specs.declared.tally.Tally.{Tally}
 use Rattle.flow_files.specs.Tallies.{Tallies}
 use Rattle.flow_graph.specs.declared.route.Choice.{Choice}
@@ -10,10 +10,9 @@ use Rattle.flow_graph.specs.declared.state.State.{State}
 use Rattle.flow_graph.specs.Charts.{Chart, op_at}
 use Rattle.flow_graph.specs.Operators.{Op}
 use Rattle.flow_graph.specs.Runs.{Lists}
-use Rattle.flow_shape.specs.Refusals.{all_ops}
 use Rattle.flow_sound.specs.Kinds.{IsExport, first_into}
 use Rattle.flow_sound.specs.Promise.{AcceptedRun}
-use Rattle.flow_sound.specs.Tallies.{faults_read}
+use Rattle.flow_sound.specs.Tallies.{faults_before}
 use Rattle.list_run.specs.declared.ran.Ran.{Ran}
 use Rattle.osh_ends.specs.Ends.{MeetsGrades, NamedFile, RunsTo, done, faulty}
 use Rattle.osh_ends.specs.FlowFiles.{IsMeaning}
@@ -23,7 +22,7 @@ use Rattle.run_finish.specs.declared.ending.Ending.TheVariants as ending
 use Rattle.run_finish.specs.Reported.{AreCounts}
 use Rattle.run_finish.specs.Written.{sink_at}
 
--- what is there is of a legal run of the flow over these files: the numbers of the rows that the meaning has, what came at the exports, and the faults of the imports
+-- what is there is of a legal run of the flow over these files: the numbers of the rows that the meaning has, what came at the exports, and the faults of the imports and of the operators by rows
 pub record IsRun (files : FileMap) (c : Chart) (states : List State) (choices : List Choice) (ran : Ran) (found : Tally) : Type 0 where
   pub ops : ℕ → Op
   pub whole : ℕ → List Row
@@ -33,7 +32,7 @@ pub record IsRun (files : FileMap) (c : Chart) (states : List State) (choices : 
   pub counts : AreCounts c whole ran.counts
   pub sinks : (o : ℕ) → o < length c.flow.ops → IsExport (op_at c o).kind → sink_at ran.sinks o ≡ run.got (first_into c o)
   pub grades : MeetsGrades c states whole run.got
-  pub tally : Tallies (flat_map (faults_read c ops) (all_ops c)) found
+  pub tally : Tallies (faults_before c ops (λ l. joined (run.got l))) found
 
 -- the run ended: its files and its report are left, or the report of its faults; or a device failed on the way, or memory was wanting, and nothing is left
 abbrev pub Ends : (old new : FileMap) → Chart → ℕ → List State → List Choice → (tells : Bool) → (out_old out_new : List ℕ) → (files_rose out_rose : Type 0) → Ending → Type 0

@@ -1,7 +1,7 @@
 use Rattle.std.proofs.Common.{◌≡◌, ◌∷◌, [], ap, ◌∙◌, get_or, subst, IfOk}
 use Rattle.flow_graph.specs.declared.flow.OpSpec.{OpSpec}
 use Rattle.flow_graph.specs.Charts.{no_op}
-use Rattle.flow_shape.specs.Options.{operator_parts}
+use Rattle.op_shape.specs.Options.{operator_parts}
 use Rattle.flow_shape.specs.Refusals.{chart_of, inputs_at}
 use Rattle.flow_shape.proofs.Causing.{known_at, parts_same}
 use Rattle.flow_shape.proofs.Sound.{own_none}

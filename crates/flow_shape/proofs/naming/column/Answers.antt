@@ -1,5 +1,5 @@
 use Rattle.std.proofs.Common.{sym}
-use Rattle.flow_shape.specs.Naming.{is_named}
+use Rattle.op_shape.specs.Naming.{is_named}
 use Rattle.flow_shape.proofs.Places.{place_some, place_none}
 use Rattle.flow_shape.proofs.naming.column.Goals as goal
 

@@ -1,5 +1,5 @@
 use Rattle.std.proofs.Common.{◌≡◌, take}
-use Rattle.flow_shape.specs.Naming.{columns}
+use Rattle.op_shape.specs.Naming.{columns}
 use Rattle.flow_shape.proofs.naming.columns.Given as goal
 
 abbrev pub invariant-loop-name : goal.invariant-loop-name

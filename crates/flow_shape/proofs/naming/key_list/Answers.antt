@@ -1,7 +1,7 @@
 use Rattle.std.proofs.Common.{◌≡◌, sym, ap, ◌∙◌, subst}
 use Rattle.std.proofs.lemmas.List.{take_all}
 use Rattle.ds_schema.specs.Rows.{KeysDiffer}
-use Rattle.flow_shape.specs.Naming.{key_columns}
+use Rattle.op_shape.specs.Naming.{key_columns}
 use Rattle.flow_shape.proofs.Keys.{keys_differ}
 use Rattle.flow_shape.proofs.naming.key_list.Goals as goal
 

@@ -1,5 +1,5 @@
 use Rattle.std.proofs.Common.{◌≡◌, take}
-use Rattle.flow_shape.specs.Naming.{key_columns}
+use Rattle.op_shape.specs.Naming.{key_columns}
 use Rattle.flow_shape.proofs.naming.key_list.Given as goal
 
 abbrev pub invariant-loop-name : goal.invariant-loop-name

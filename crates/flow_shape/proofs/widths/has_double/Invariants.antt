@@ -1,5 +1,5 @@
 use Rattle.std.proofs.Common.{◌≡◌, drop}
-use Rattle.flow_shape.specs.Widths.{has_double}
+use Rattle.op_shape.specs.Widths.{has_double}
 use Rattle.flow_shape.proofs.widths.has_double.Given as goal
 
 abbrev pub invariant-loop-i : goal.invariant-loop-i

@@ -1,5 +1,5 @@
 use Rattle.std.proofs.Common.{◌≡◌, ◌≤◌, ◌+◌, drop}
-use Rattle.flow_shape.specs.Widths.{widest_row}
+use Rattle.op_shape.specs.Widths.{widest_row}
 use Rattle.flow_shape.proofs.widths.is_short.Given as goal
 
 abbrev pub invariant-loop-field : goal.invariant-loop-field

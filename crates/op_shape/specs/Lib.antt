@@ -1,0 +1,6 @@
+pub mod Causes
+pub mod Columns
+pub mod Exprs
+pub mod Naming
+pub mod Options
+pub mod Widths

@@ -1,0 +1,125 @@
+-- What is wrong at an operator's options and outputs, and the fields of its outputs, by the fields of its inputs.
+use Rattle.std.specs.Prelude.{ℕ, zero, suc, ◌<◌, ◌==◌, Bool, true, false, not, List, [], ◌∷◌, ◌++◌, length, map, get_or, Option, Some, None, codes}
+use Rattle.std.specs.List.{AllByRecursion}
+use Rattle.ds_value.specs.declared.kind.Kind.TheVariants as data_kind
+use Rattle.ds_schema.specs.declared.schema.Field.{Field}
+use Rattle.ds_schema.specs.declared.key.Key.{Key}
+use Rattle.ds_schema.specs.Schemas.{IsField, IsFieldName}
+use Rattle.op_row.specs.Expressed.{AreDistinct}
+use Rattle.flow_graph.specs.declared.op_kind.OpKind.{OpKind}
+use Rattle.flow_graph.specs.declared.op_kind.OpKind.TheVariants as kind
+use Rattle.flow_graph.specs.declared.op_kind.SetSpec.{SetSpec}
+use Rattle.flow_graph.specs.declared.parts.OpParts.{OpParts}
+use Rattle.op_shape.specs.declared.fault.ShapeWhy.{ShapeWhy}
+use Rattle.op_shape.specs.declared.fault.ShapeWhy.TheVariants as why
+use Rattle.op_shape.specs.Causes.{cause_if}
+use Rattle.op_shape.specs.Columns.{columns_cause, has_renamed, kept_columns, kept_fields, modified_fields, set_columns, set_fields, sets_cause}
+use Rattle.op_shape.specs.Exprs.{exprs_of, on_cause, set_causes, test_cause}
+use Rattle.op_shape.specs.Naming.{has_keys, key_columns, NamesDiffer}
+use Rattle.op_shape.specs.Widths.{fields_cause}
+
+-- the operators whose options and outputs are defined here so far
+abbrev pub IsKnown : OpKind → Type 0
+IsKnown (kind.Import file schema delim fixed reject) = Unit {0}
+IsKnown (kind.Export file delim fixed) = Unit {0}
+IsKnown kind.Copy = Unit {0}
+IsKnown (kind.Filter test reject) = Unit {0}
+IsKnown (kind.Transform set reject) = Unit {0}
+IsKnown (kind.Modify keep drop rename) = Unit {0}
+IsKnown (kind.Switch on cases reject) = Unit {0}
+IsKnown (kind.Tsort key) = Unit {0}
+IsKnown (kind.Remdup key last) = Unit {0}
+IsKnown k = ⊥
+
+abbrev pub first_fields : List (List Field) → List Field
+first_fields ins = get_or ins 0 []
+
+-- the fields of input 0; none where there is no input
+abbrev pub fields_in : Option (List Field) → List Field
+fields_in (Some fields) = fields
+fields_in None = []
+
+-- every operator but an import has an input
+abbrev pub IsFed : OpKind → Option (List Field) → Type 0
+IsFed (kind.Import file schema delim fixed reject) first = Unit {0}
+IsFed k (Some fields) = Unit {0}
+IsFed k None = ⊥
+
+-- fixed widths are one for each column
+abbrev pub widths_suit : Option (List ℕ) → List Field → Bool
+widths_suit None fields = true
+widths_suit (Some widths) fields = length widths == length fields
+
+abbrev pub widths_cause : Option (List ℕ) → List Field → Option ShapeWhy
+widths_cause widths fields = cause_if (not (widths_suit widths fields)) why.Schemas
+
+abbrev pub key_cause : List (List ℕ × Bool) → List Field → Option ShapeWhy
+key_cause key fields = cause_if (not (has_keys fields key)) why.Field
+
+-- a renamed column is one that is kept
+abbrev pub renames_cause : List (List ℕ × List ℕ) → List Field → Option ShapeWhy
+renames_cause rename kept = cause_if (not (has_renamed kept rename)) why.Field
+
+-- at the options, in their order
+abbrev pub option_causes : OpKind → List (List Field) → List (Option ShapeWhy)
+option_causes (kind.Import file schema delim fixed reject) ins = widths_cause fixed schema ∷ []
+option_causes (kind.Export file delim fixed) ins = widths_cause fixed (first_fields ins) ∷ []
+option_causes (kind.Filter test reject) ins = test_cause (first_fields ins) test ∷ []
+option_causes (kind.Transform set reject) ins = set_causes (first_fields ins) set
+option_causes (kind.Modify keep drop rename) ins =
+    columns_cause keep (first_fields ins) ∷ (columns_cause drop (first_fields ins) ∷ (renames_cause rename (kept_fields keep drop (first_fields ins)) ∷ []))
+option_causes (kind.Switch on cases reject) ins = on_cause (first_fields ins) on ∷ []
+option_causes (kind.Tsort key) ins = key_cause key (first_fields ins) ∷ []
+option_causes (kind.Remdup key last) ins = key_cause key (first_fields ins) ∷ []
+option_causes k ins = []
+
+-- at the outputs, where they have fields of their own
+abbrev pub output_causes : OpKind → List (List Field) → List (Option ShapeWhy)
+output_causes (kind.Import file schema delim fixed reject) ins = fields_cause schema ∷ []
+output_causes (kind.Transform set reject) ins = sets_cause set ∷ (fields_cause (set_fields (first_fields ins) set) ∷ [])
+output_causes (kind.Modify keep drop rename) ins = fields_cause (modified_fields keep drop rename (first_fields ins)) ∷ []
+output_causes k ins = []
+
+-- `record ( line: string[max=65536]; )`, of rejected lines
+abbrev pub line_fields : List Field
+line_fields = record { name = codes "line"; nullable = false; kind = data_kind.Text 65536 false } ∷ []
+
+-- the fields of output 0, and those of a reject output
+abbrev pub made_or_rejected : List Field → List Field → ℕ → List Field
+made_or_rejected made rejected zero = made
+made_or_rejected made rejected (suc q) = rejected
+
+-- the fields of output q: those of input 0, but where the operator has or makes others
+abbrev pub output_fields : OpKind → List (List Field) → ℕ → List Field
+output_fields (kind.Import file schema delim fixed reject) ins q = made_or_rejected schema line_fields q
+output_fields (kind.Transform set reject) ins q = made_or_rejected (set_fields (first_fields ins) set) (first_fields ins) q
+output_fields (kind.Modify keep drop rename) ins q = modified_fields keep drop rename (first_fields ins)
+output_fields k ins q = first_fields ins
+
+-- the key lists of an operator, one for each input
+abbrev pub operator_keys : OpKind → List (List Field) → List (List Key)
+operator_keys (kind.Tsort key) ins = key_columns (first_fields ins) key ∷ []
+operator_keys (kind.Remdup key last) ins = key_columns (first_fields ins) key ∷ []
+operator_keys k ins = []
+
+-- the columns that a transform sets, and those that a modify keeps
+abbrev pub operator_columns : OpKind → List (List Field) → List ℕ
+operator_columns (kind.Transform set reject) ins = set_columns (first_fields ins) set
+operator_columns (kind.Modify keep drop rename) ins = kept_columns keep drop (first_fields ins)
+operator_columns k ins = []
+
+abbrev pub operator_parts : OpKind → List (List Field) → OpParts
+operator_parts k ins = record { keys = operator_keys k ins; cols = operator_columns k ins; exprs = exprs_of k (first_fields ins) }
+
+-- no name stands twice in a key
+abbrev pub KeysDistinct : OpKind → Type 0
+KeysDistinct (kind.Tsort key) = NamesDiffer key
+KeysDistinct (kind.Remdup key last) = NamesDiffer key
+KeysDistinct k = Unit {0}
+
+-- fields that are set and names that are given are such as schemas have; there is a set; no case stands twice
+abbrev pub OptionsStand : OpKind → Type 0
+OptionsStand (kind.Transform set reject) = (0 < length set) × AllByRecursion (λ (s : SetSpec). IsField s.field) set
+OptionsStand (kind.Modify keep drop rename) = AllByRecursion (λ (p : List ℕ × List ℕ). IsFieldName (p.0)) rename
+OptionsStand (kind.Switch on cases reject) = AreDistinct cases
+OptionsStand k = Unit {0}
