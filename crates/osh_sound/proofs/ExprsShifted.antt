@@ -1,9 +1,7 @@
 -- Tokens that spell an expression spell one at other places too.
-use Rattle.std.proofs.Common.{◌≡◌, ◌≤◌, ◌+◌, inl, inr, ℕ, zero, suc, List, [], ◌∷◌, length, Bool, true, false, Option, Some, None, refl, sym, ap, ◌∙◌, subst, arith}
+use Rattle.std.proofs.Common.{◌≡◌, inl, inr, ℕ, zero, suc, List, [], ◌∷◌, length, Bool, true, false, Some, refl, sym, ap, ◌∙◌, subst, arith}
 use Rattle.ds_lex.specs.Lexemes.{Lexeme}
-use Rattle.expr_read.specs.declared.tree.Infix.TheVariants as sign
 use Rattle.expr_read.specs.declared.tree.Infix.{Infix}
-use Rattle.expr_read.specs.declared.tree.Prefix.{Prefix}
 use Rattle.expr_read.specs.declared.tree.Link.{Link}
 use Rattle.expr_read.specs.declared.tree.Expr.{Expr}
 use Rattle.expr_read.specs.declared.tree.Expr.TheVariants as made
@@ -13,7 +11,7 @@ use Rattle.expr_read.specs.declared.what.Level.{Level}
 use Rattle.expr_read.specs.declared.what.Level.TheVariants as level
 use Rattle.expr_read.specs.Marks.{what_of, what_by, prefix_of, joins}
 use Rattle.expr_read.specs.Reading.{link_by, link_if, chained, content}
-use Rattle.expr_read.specs.Grammar.{Form, mark, link_phrase, links_phrase, MayStand, chain_form, or_form, number_form, quoted_form, column_form, further_args, args_phrase, call_form, bracket_form, signed_form, no_form, unary_by, unary_form}
+use Rattle.expr_read.specs.Grammar.{Form, mark, links_phrase, MayStand, chain_form, or_form, number_form, quoted_form, column_form, further_args, args_phrase, call_form, bracket_form, signed_form, no_form, unary_by, unary_form}
 use Rattle.osh_sound.proofs.KeptTokens.{Shifts, Shifted}
 
 same_what : (d e : ℕ) (t u : Lexeme) → Shifts d e t u → what_of t ≡ what_of u
