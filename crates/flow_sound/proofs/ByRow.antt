@@ -2,7 +2,6 @@
 use Rattle.std.proofs.Common.{◌≡◌, ◌<◌, ℕ, zero, suc, ◌==◌, Bool, true, false, cond, List, [], ◌∷◌, ◌++◌, length, map, get_or, refl, sym, ap, ap₂, subst, ◌∙◌, arith, inl, Option, None}
 use Rattle.std.specs.List.{AllByRecursion}
 use Rattle.std.proofs.lemmas.Bool.Decides.{nat_tests}
-use Rattle.std.proofs.lemmas.List.{length-map}
 use Rattle.std.proofs.lemmas.List.FromFn.{get_or-map-range_with_len}
 use Rattle.ds_schema.specs.declared.schema.Field.{Field}
 use Rattle.ds_schema.specs.Rows.{val}
@@ -23,17 +22,19 @@ use Rattle.flow_graph.specs.FlowShape.{ColumnsLie, FormPorts, IsShape}
 use Rattle.flow_graph.specs.RowRules.{first_expr, numbered, row_rule, sets_of}
 use Rattle.flow_graph.specs.Shapes.{PassesInto, RowShape, Wide}
 use Rattle.flow_graph.proofs.RowShapes.{filter_shape, modify_shape, switch_shape, transform_shape}
-use Rattle.op_shape.specs.declared.fault.ShapeWhy.{ShapeWhy}
 use Rattle.op_shape.specs.Causes.{first_cause}
-use Rattle.op_shape.specs.Columns.{field_at, kept_columns, renamed, set_fields}
+use Rattle.op_shape.specs.Columns.{field_at, modified_fields, renamed, set_fields}
+use Rattle.op_shape.proofs.Firsts.{none_both}
+use Rattle.op_shape.proofs.Keeping.{modified_length}
+use Rattle.op_shape.proofs.Putting.{width_is}
 use Rattle.op_shape.specs.Options.{made_or_rejected, operator_parts, option_causes, output_causes, output_fields}
 use Rattle.flow_shape.specs.Refusals.{IsShapeOf, fields_at, input_cause, inputs_at, kind_at, parts_at}
 use Rattle.flow_sound.specs.Fitting.{IsByRow}
 use Rattle.flow_sound.specs.Kinds.{first_into}
 use Rattle.flow_sound.proofs.Members.{below_range}
 use Rattle.flow_sound.proofs.Order.{enters_it}
-use Rattle.flow_sound.proofs.SetRows.{width_is, wider}
-use Rattle.flow_sound.proofs.Working.{Fit, KeptLie, NoCause, Works, fits_long, kept_fit, same_fit, set_row_fits, set_targets}
+use Rattle.flow_sound.proofs.SetRows.{wider}
+use Rattle.flow_sound.proofs.Working.{Fit, KeptLie, Works, fits_long, kept_fit, same_fit, set_row_fits, set_targets}
 
 -- ---- rules
 
@@ -74,10 +75,9 @@ sets_shape set reject fields parts w =
     outs zero = ap₂ width_after long (set_targets set reject fields parts w) ∙ width_is set fields
     outs (suc q) = ap (λ b. cond b (width_after n ts) n) (after_first q) ∙ long
 
-kept_width : (keep drop : List (List ℕ)) (rename : List (List ℕ × List ℕ)) (fields : List Field) (parts : OpParts) → Works (kind.Modify keep drop rename) fields parts → length parts.cols ≡ length (map (renamed rename) (map (field_at fields) (kept_columns keep drop fields)))
+kept_width : (keep drop : List (List ℕ)) (rename : List (List ℕ × List ℕ)) (fields : List Field) (parts : OpParts) → Works (kind.Modify keep drop rename) fields parts → length parts.cols ≡ length (modified_fields keep drop rename fields)
 kept_width keep drop rename fields parts w =
-    ap (λ (p : OpParts). length p.cols) w.parts_are
-    ∙ sym (length-map (map (field_at fields) (kept_columns keep drop fields)) (renamed rename) ∙ length-map (kept_columns keep drop fields) (field_at fields))
+    ap (λ (p : OpParts). length p.cols) w.parts_are ∙ sym (modified_length keep drop rename fields)
 
 -- the rule of an operator by rows, from its input to its outputs
 pub row_shape : (o : ℕ) (k : OpKind) (fields : List Field) (parts : OpParts) → IsByRow k → Works k fields parts → RowShape (row_rule o k parts) (length fields) (λ q. length (output_fields k (fields ∷ []) q))
@@ -113,19 +113,6 @@ rows_fit o k fields parts h w q r e = absurd h
 
 -- ---- the operators of a shaped flow
 
-all_none : (places : List (Option ShapeWhy)) → first_cause places ≡ None → NoCause places
-all_none [] e = tt
-all_none (None ∷ places) e = (refl, all_none places e)
-all_none (_ ∷ places) e = absurd cc
-
-behind : (xs ys : List (Option ShapeWhy)) → NoCause (xs ++ ys) → NoCause ys
-behind [] ys h = h
-behind (x ∷ xs) ys h = behind xs ys h.1
-
-before : (xs ys : List (Option ShapeWhy)) → NoCause (xs ++ ys) → NoCause xs
-before [] ys h = tt
-before (x ∷ xs) ys h = (h.0, before xs ys h.1)
-
 pub one_link : (ls : List ℕ) → length ls ≡ 1 → ls ≡ get_or ls 0 0 ∷ []
 one_link [] e = absurd (omega arith)
 one_link (l ∷ []) e = refl
@@ -156,7 +143,8 @@ works_at flow dict c s f o b h = record {
   schema = (s.links (first_into c o) (link_there c o (into_by_row c o s b h))).schema;
   parts_are = ap (λ ps. get_or ps o no_parts) f.parts ∙ get_or-map-range_with_len (parts_at c) 0 (length c.flow.ops) o o no_parts b (omega arith) ∙ ap (operator_parts (kind_at c o)) (one_input c o s b h);
   exprs = (s.ops o b).exprs;
-  causes = subst (λ ins. NoCause (option_causes (kind_at c o) ins)) (one_input c o s b h)
-      (before (option_causes (kind_at c o) (inputs_at c o)) (output_causes (kind_at c o) (inputs_at c o)) (behind (map (input_cause c o) (links_into c o)) _ (all_none _ (f.schemas.fits o b).sound)));
+  sound = subst (λ ins. first_cause (option_causes (kind_at c o) ins) ≡ None) (one_input c o s b h)
+      (none_both (option_causes (kind_at c o) (inputs_at c o)) (output_causes (kind_at c o) (inputs_at c o))
+      (none_both (map (input_cause c o) (links_into c o)) (option_causes (kind_at c o) (inputs_at c o) ++ output_causes (kind_at c o) (inputs_at c o)) (f.schemas.fits o b).sound).1).0;
   kept = kept_lie c o (op_at c o).kind (s.ops o b).columns;
 }

@@ -32,8 +32,9 @@ use Rattle.flow_graph.specs.declared.op_kind.OpKind.TheVariants as kind
 use Rattle.flow_graph.specs.declared.op_kind.SetSpec.{SetSpec}
 use Rattle.flow_graph.specs.declared.parts.OpParts.{OpParts}
 use Rattle.flow_graph.specs.RowRules.{ExprsFit, sets_of}
-use Rattle.op_shape.specs.declared.fault.ShapeWhy.{ShapeWhy}
 use Rattle.op_shape.specs.declared.fault.ShapeWhy.TheVariants as why
+use Rattle.op_shape.proofs.Firsts.{none_head}
+use Rattle.op_shape.specs.Causes.{first_cause}
 use Rattle.op_shape.specs.Columns.{field_at, renamed, set_columns, set_fields}
 use Rattle.op_shape.specs.Exprs.{expr_cause, expr_over, is_set, read_over, set_causes, some_tree, suits, tree_over, typed_text}
 use Rattle.op_shape.specs.Options.{operator_parts, option_causes}
@@ -46,15 +47,12 @@ abbrev pub KeptLie : List Field → OpKind → OpParts → Type 0
 KeptLie fields (kind.Modify keep drop rename) parts = Lies parts.cols (all_columns (length fields))
 KeptLie fields k parts = ⊤
 
-abbrev pub NoCause : List (Option ShapeWhy) → Type 0
-NoCause places = AllByRecursion (λ place. place ≡ None) places
-
 -- what the shape of a flow says of an operator by rows
 pub record Works (k : OpKind) (fields : List Field) (parts : OpParts) : Type 0 where
   pub schema : IsSchema fields
   pub parts_are : parts ≡ operator_parts k (fields ∷ [])
   pub exprs : ExprsFit fields k parts
-  pub causes : NoCause (option_causes k (fields ∷ []))
+  pub sound : first_cause (option_causes k (fields ∷ [])) ≡ None
   pub kept : KeptLie fields k parts
 
 -- ---- the expressions of sets
@@ -81,9 +79,11 @@ expr_typed fields s test text e = go (typed_text fields text) refl e
 abbrev AreTyped : List Field → List TypedTree → Type 0
 AreTyped fields exprs = AllByRecursion (λ (t : TypedTree). IsTyped fields t.node t.typing) exprs
 
-sets_typed : (fields : List Field) → IsSchema fields → (set : List SetSpec) → NoCause (set_causes fields set) → AreTyped fields (map (λ (s : SetSpec). expr_over fields s.expr) set)
+sets_typed : (fields : List Field) → IsSchema fields → (set : List SetSpec) → first_cause (set_causes fields set) ≡ None → AreTyped fields (map (λ (s : SetSpec). expr_over fields s.expr) set)
 sets_typed fields s [] h = tt
-sets_typed fields s (x ∷ set) h = (expr_typed fields s (is_set x.field) x.expr h.0, sets_typed fields s set h.1)
+sets_typed fields s (x ∷ set) h =
+    let none = none_head (expr_cause (is_set x.field) fields x.expr) (set_causes fields set) h in
+    (expr_typed fields s (is_set x.field) x.expr none.0, sets_typed fields s set none.1)
 
 -- ---- the values that are set
 
@@ -185,7 +185,7 @@ set_row_fits set reject fields parts r w e = go (set_values r sets) (λ values q
     each = subst (λ fs. AllByRecursion (IsSet fs) sets) w.exprs.4 w.exprs.3.each
 
     typed : AreTyped fields parts.exprs
-    typed = subst (AreTyped fields) (sym (ap (λ (p : OpParts). p.exprs) w.parts_are)) (sets_typed fields w.schema set w.causes)
+    typed = subst (AreTyped fields) (sym (ap (λ (p : OpParts). p.exprs) w.parts_are)) (sets_typed fields w.schema set w.sound)
 
     cells : (values : List Value) → FitEach set values → row_fits (set_fields fields set) (map (cell (targets sets) values r) (all_columns (width_after (length (input_fields sets)) (targets sets)))) ≡ true
     cells values h =
