@@ -7,3 +7,4 @@ pub mod Assigned
 pub mod Transformed
 pub mod Placing
 pub mod Examples
+pub mod Pushed

@@ -2,6 +2,11 @@ ghost use Rattle.std.specs.Prelude.{◌≡◌};
 ghost use Rattle.std.specs.List.{list_all};
 ghost use Rattle.op_row.specs.ByRow.{has_columns};
 
+mod filtering;
+mod fixture;
+mod switching;
+mod transforming;
+
 use super::*;
 use ds_schema::Row;
 use ds_value::Value;

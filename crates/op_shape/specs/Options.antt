@@ -34,6 +34,17 @@ IsKnown k = ⊥
 abbrev pub first_fields : List (List Field) → List Field
 first_fields ins = get_or ins 0 []
 
+-- the fields of input 0; none where there is no input
+abbrev pub fields_in : Option (List Field) → List Field
+fields_in (Some fields) = fields
+fields_in None = []
+
+-- every operator but an import has an input
+abbrev pub IsFed : OpKind → Option (List Field) → Type 0
+IsFed (kind.Import file schema delim fixed reject) first = Unit {0}
+IsFed k (Some fields) = Unit {0}
+IsFed k None = ⊥
+
 -- fixed widths are one for each column
 abbrev pub widths_suit : Option (List ℕ) → List Field → Bool
 widths_suit None fields = true

@@ -2,9 +2,18 @@
 //! outputs, and what the names and expressions of its options stand for.
 #![tactic(auto)]
 
+mod expressions;
 mod fault;
+mod modifying;
 pub mod naming;
-pub mod options;
+mod options;
+mod outputs;
+mod parts;
+mod setting;
 mod widths;
 
 pub use fault::ShapeWhy;
+pub use options::own_cause;
+pub use outputs::{line_schema, output_schema};
+pub use parts::operator_parts;
+

@@ -32,7 +32,8 @@ pub fn has_keys(fields: &[Field], keys: &[(Name, bool)]) -> bool
     keys.iter().all(|key| has_column(fields, &key.0))
 }
 
-fn place_of(fields: &[Field], name: &Name) -> Option<usize>
+/// The first field of that name.
+pub fn place_of(fields: &[Field], name: &Name) -> Option<usize>
     ensures place { result ≡ position (is_named name.now) fields.now }
     ensures within { IfSome result (λ k. k < length fields.now) }
 {

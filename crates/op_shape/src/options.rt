@@ -1,15 +1,21 @@
-ghost use Rattle.std.specs.Prelude.{◌≡◌, ◌<◌, ◌^◌, ◌++◌, not, [], ◌∷◌, true, None, length, option_copied, IfOk};
+//! What is wrong at the options and the outputs of an operator.
+
+ghost use Rattle.std.specs.Prelude.{◌≡◌, ◌<◌, ◌^◌, ◌++◌, not, [], ◌∷◌, None, length, option_copied, IfOk};
 ghost use Rattle.op_shape.specs.Causes.{first_cause};
-ghost use Rattle.op_shape.specs.Naming.{has_keys, key_columns, NamesDiffer};
+ghost use Rattle.op_shape.specs.Columns.{columns_cause, kept_fields, modified_fields, set_fields, sets_cause};
+ghost use Rattle.op_shape.specs.Exprs.{set_causes};
 ghost use Rattle.op_shape.specs.Widths.{fields_cause};
-ghost use Rattle.op_shape.specs.Options.{IsKnown, KeysDistinct, widths_suit, widths_cause, key_cause, option_causes, output_causes, operator_keys, operator_parts};
+ghost use Rattle.op_shape.specs.Options.{IsKnown, IsFed, fields_in, widths_suit, widths_cause, key_cause, renames_cause, option_causes, output_causes};
 
 use crate::ShapeWhy;
-use crate::naming::{has_keys, key_list};
+use crate::expressions::{on_cause, set_causes, test_cause};
+use crate::modifying::{columns_cause, modified_fields, renames_cause};
+use crate::naming::has_keys;
+use crate::setting::{set_fields, sets_cause};
 use crate::widths::fields_cause;
-use ds_schema::{Field, KeyList};
+use ds_schema::{Field, Schema};
 use ds_value::{Items, Name, NoMemory};
-use flow_graph::{OpKind, OpParts};
+use flow_graph::{OpKind, SetSpec};
 use std::alloc::Global;
 
 fn widths_suit(widths: &Option<Items<u32>>, fields: &[Field]) -> bool
@@ -50,60 +56,97 @@ fn import_cause(widths: &Option<Items<u32>>, fields: &[Field]) -> Option<ShapeWh
     }
 }
 
-/// What is wrong at an operator's options and outputs, where input 0 has these fields.
-pub fn own_cause(kind: &OpKind, first: &[Field]) -> Option<ShapeWhy>
+fn transform_cause(
+    alloc: Global,
+    first: &Schema,
+    sets: &[SetSpec],
+) -> Result<Option<ShapeWhy>, NoMemory>
+    ensures { IfOk result (λ cause. cause ≡ first_cause (set_causes first.now sets.now ++ (sets_cause sets.now ∷ (fields_cause (set_fields first.now sets.now) ∷ [])))) }
+{
+    if let Some(why) = set_causes(alloc, first, sets)? {
+        return Ok(Some(why));
+    }
+    if let Some(why) = sets_cause(sets) {
+        return Ok(Some(why));
+    }
+    let made = set_fields(alloc, first.as_slice(), sets)?;
+    Ok(fields_cause(made.as_slice()))
+}
+
+fn modify_cause(
+    alloc: Global,
+    keep: &[Name],
+    drop: &[Name],
+    rename: &[(Name, Name)],
+    first: &Schema,
+) -> Result<Option<ShapeWhy>, NoMemory>
+    ensures { IfOk result (λ cause. cause ≡ first_cause (columns_cause keep.now first.now ∷ (columns_cause drop.now first.now ∷ (renames_cause rename.now (kept_fields keep.now drop.now first.now) ∷ (fields_cause (modified_fields keep.now drop.now rename.now first.now) ∷ []))))) }
+{
+    let fields = first.as_slice();
+    if let Some(why) = columns_cause(keep, fields) {
+        return Ok(Some(why));
+    }
+    if let Some(why) = columns_cause(drop, fields) {
+        return Ok(Some(why));
+    }
+    if let Some(why) = renames_cause(alloc, keep, drop, rename, fields)? {
+        return Ok(Some(why));
+    }
+    let made = modified_fields(alloc, keep, drop, rename, fields)?;
+    Ok(fields_cause(made.as_slice()))
+}
+
+fn fed_cause(
+    alloc: Global,
+    kind: &OpKind,
+    first: &Schema,
+) -> Result<Option<ShapeWhy>, NoMemory>
     requires { IsKnown kind.now }
-    ensures { result ≡ first_cause (option_causes kind.now (first.now ∷ []) ++ output_causes kind.now (first.now ∷ [])) }
+    ensures { IfOk result (λ cause. cause ≡ first_cause (option_causes kind.now (first.now ∷ []) ++ output_causes kind.now (first.now ∷ []))) }
+{
+    match kind {
+        OpKind::Import { schema, fixed, .. } => Ok(import_cause(fixed, schema.as_slice())),
+        OpKind::Export { fixed, .. } => Ok(widths_cause(fixed, first.as_slice())),
+        OpKind::Filter { test, .. } => test_cause(alloc, first, test.as_slice()),
+        OpKind::Transform { set, .. } => transform_cause(alloc, first, set.as_slice()),
+        OpKind::Modify { keep, drop, rename } => modify_cause(
+            alloc,
+            keep.as_slice(),
+            drop.as_slice(),
+            rename.as_slice(),
+            first,
+        ),
+        OpKind::Switch { on, .. } => on_cause(alloc, first, on.as_slice()),
+        OpKind::Tsort { key } | OpKind::Remdup { key, .. } => {
+            Ok(key_cause(key.as_slice(), first.as_slice()))
+        }
+        _ => Ok(None),
+    }
+}
+
+/// Of an operator without an input.
+fn source_cause(kind: &OpKind) -> Option<ShapeWhy>
+    requires { IsFed kind.now None }
+    ensures { result ≡ first_cause (option_causes kind.now ([] ∷ []) ++ output_causes kind.now ([] ∷ [])) }
 {
     match kind {
         OpKind::Import { schema, fixed, .. } => import_cause(fixed, schema.as_slice()),
-        OpKind::Export { fixed, .. } => widths_cause(fixed, first),
-        OpKind::Tsort { key } | OpKind::Remdup { key, .. } => key_cause(key.as_slice(), first),
-        _ => None,
+        _ => unreachable!(),
     }
 }
 
-fn one_key(
+/// What is wrong at an operator's options and outputs, where input 0 has this schema.
+pub fn own_cause(
     alloc: Global,
-    fields: &[Field],
-    key: &[(Name, bool)],
-) -> Result<Items<KeyList>, NoMemory>
-    requires few { length fields.now < 2 ^ 32 }
-    requires named { key_cause key.now fields.now ≡ None }
-    requires differ { NamesDiffer key.now }
-    ensures { IfOk result (λ keys. keys ≡ key_columns fields.now key.now ∷ []) }
-{
-    let mut keys = Items::new(alloc);
-    keys.push(key_list(alloc, fields, key)?)?;
-    Ok(keys)
-}
-
-/// The key lists of an operator, one for each input, where input 0 has these fields.
-fn operator_keys(alloc: Global, kind: &OpKind, first: &[Field]) -> Result<Items<KeyList>, NoMemory>
-    requires few { length first.now < 2 ^ 32 }
+    kind: &OpKind,
+    first: Option<&Schema>,
+) -> Result<Option<ShapeWhy>, NoMemory>
     requires known { IsKnown kind.now }
-    requires sound { first_cause (option_causes kind.now (first.now ∷ []) ++ output_causes kind.now (first.now ∷ [])) ≡ None }
-    requires differ { KeysDistinct kind.now }
-    ensures { IfOk result (λ keys. keys ≡ operator_keys kind.now (first.now ∷ [])) }
+    requires fed { IsFed kind.now (option_copied first) }
+    ensures { IfOk result (λ cause. cause ≡ first_cause (option_causes kind.now (fields_in (option_copied first.entry) ∷ []) ++ output_causes kind.now (fields_in (option_copied first.entry) ∷ []))) }
 {
-    match kind {
-        OpKind::Tsort { key } | OpKind::Remdup { key, .. } => {
-            one_key(alloc, first, key.as_slice())
-        }
-        _ => Ok(Items::new(alloc)),
+    match first {
+        Some(schema) => fed_cause(alloc, kind, schema),
+        None => Ok(source_cause(kind)),
     }
-}
-
-/// What the names of an operator's options stand for, where input 0 has these fields.
-pub fn operator_parts(alloc: Global, kind: &OpKind, first: &[Field]) -> Result<OpParts, NoMemory>
-    requires few { length first.now < 2 ^ 32 }
-    requires known { IsKnown kind.now }
-    requires sound { first_cause (option_causes kind.now (first.now ∷ []) ++ output_causes kind.now (first.now ∷ [])) ≡ None }
-    requires differ { KeysDistinct kind.now }
-    ensures { IfOk result (λ parts. parts ≡ operator_parts kind.now (first.now ∷ [])) }
-{
-    Ok(OpParts {
-        keys: operator_keys(alloc, kind, first)?,
-        cols: Items::new(alloc),
-    })
 }

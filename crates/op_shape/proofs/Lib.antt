@@ -1,0 +1,10 @@
+pub mod Firsts
+pub mod Fit
+pub mod Held
+pub mod Keeping
+pub mod Keys
+pub mod Making
+pub mod Places
+pub mod Putting
+pub mod Same
+pub mod Typing

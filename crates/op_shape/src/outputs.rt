@@ -1,0 +1,151 @@
+//! The schemas of an operator's outputs.
+
+ghost use Rattle.std.specs.Prelude.{◌≡◌, ◌++◌, ℕ, List, [], ◌∷◌, true, None, codes, option_copied, IfOk};
+ghost use Rattle.std.specs.List.{AllByRecursion};
+ghost use Rattle.ds_schema.specs.Schemas.{IsField, IsFieldName};
+ghost use Rattle.flow_graph.specs.declared.op_kind.SetSpec.{SetSpec as SetOf};
+ghost use Rattle.op_shape.specs.Causes.{first_cause};
+ghost use Rattle.op_shape.specs.Columns.{modified_fields, set_fields};
+ghost use Rattle.op_shape.specs.Naming.{has_columns};
+ghost use Rattle.op_shape.specs.Widths.{fields_cause};
+ghost use Rattle.op_shape.specs.Options.{IsKnown, IsFed, OptionsStand, fields_in, line_fields, made_or_rejected, option_causes, output_causes, output_fields};
+
+use crate::modifying::modified_fields;
+use crate::setting::set_fields;
+use ds_schema::{Field, Schema};
+use ds_value::{Kind, Name, NoMemory};
+use flow_graph::{OpKind, SetSpec};
+use std::alloc::Global;
+
+fn line_name(alloc: Global) -> Result<Name, NoMemory>
+    ensures { IfOk result (λ name. name ≡ codes "line") }
+{
+    match Name::from_bytes(alloc, b"line".as_slice())? {
+        Some(name) => Ok(name),
+        None => unreachable!(),
+    }
+}
+
+/// The schema `record ( line: string[max=65536]; )`, of rejected lines.
+pub fn line_schema(alloc: Global) -> Result<Schema, NoMemory>
+    ensures { IfOk result (λ schema. schema ≡ line_fields) }
+{
+    let field = Field {
+        name: line_name(alloc)?,
+        nullable: false,
+        kind: Kind::Text {
+            max: 65_536,
+            fixed: false,
+        },
+    };
+    let mut fields = Vec::new(alloc);
+    fields.push(field)?;
+    Ok(Schema::from_vec(fields))
+}
+
+fn import_schema(alloc: Global, schema: &Schema, out: u32) -> Result<Schema, NoMemory>
+    ensures { IfOk result (λ copy. copy ≡ made_or_rejected schema.now line_fields out) }
+{
+    if out == 0 {
+        schema.copied()
+    } else {
+        line_schema(alloc)
+    }
+}
+
+/// The schema of a transform's rows, with what is set.
+fn set_schema(alloc: Global, first: &Schema, sets: &[SetSpec]) -> Result<Schema, NoMemory>
+    requires sound { fields_cause (set_fields first.now sets.now) ≡ None }
+    requires stand { AllByRecursion (λ (s : SetOf). IsField s.field) sets.now }
+    ensures { IfOk result (λ schema. schema ≡ set_fields first.now sets.now) }
+{
+    let fields = set_fields(alloc, first.as_slice(), sets)?;
+    Ok(Schema::from_vec(fields))
+}
+
+fn transform_schema(
+    alloc: Global,
+    first: &Schema,
+    sets: &[SetSpec],
+    out: u32,
+) -> Result<Schema, NoMemory>
+    requires sound { fields_cause (set_fields first.now sets.now) ≡ None }
+    requires stand { AllByRecursion (λ (s : SetOf). IsField s.field) sets.now }
+    ensures { IfOk result (λ schema. schema ≡ made_or_rejected (set_fields first.now sets.now) first.now out) }
+{
+    if out == 0 {
+        set_schema(alloc, first, sets)
+    } else {
+        first.copied()
+    }
+}
+
+fn modify_schema(
+    alloc: Global,
+    keep: &[Name],
+    drop: &[Name],
+    rename: &[(Name, Name)],
+    first: &Schema,
+) -> Result<Schema, NoMemory>
+    requires there { has_columns first.now keep.now ≡ true }
+    requires sound { fields_cause (modified_fields keep.now drop.now rename.now first.now) ≡ None }
+    requires stand { AllByRecursion (λ (p : List ℕ × List ℕ). IsFieldName (p.0)) rename.now }
+    ensures { IfOk result (λ schema. schema ≡ modified_fields keep.now drop.now rename.now first.now) }
+{
+    let fields = modified_fields(alloc, keep, drop, rename, first.as_slice())?;
+    Ok(Schema::from_vec(fields))
+}
+
+fn fed_output(
+    alloc: Global,
+    kind: &OpKind,
+    first: &Schema,
+    out: u32,
+) -> Result<Schema, NoMemory>
+    requires sound { first_cause (option_causes kind.now (first.now ∷ []) ++ output_causes kind.now (first.now ∷ [])) ≡ None }
+    requires stand { OptionsStand kind.now }
+    ensures { IfOk result (λ schema. schema ≡ output_fields kind.now (first.now ∷ []) out) }
+{
+    match kind {
+        OpKind::Import { schema, .. } => import_schema(alloc, schema, out),
+        OpKind::Transform { set, .. } => transform_schema(alloc, first, set.as_slice(), out),
+        OpKind::Modify { keep, drop, rename } => modify_schema(
+            alloc,
+            keep.as_slice(),
+            drop.as_slice(),
+            rename.as_slice(),
+            first,
+        ),
+        _ => first.copied(),
+    }
+}
+
+/// Of an operator without an input.
+fn source_output(alloc: Global, kind: &OpKind, out: u32) -> Result<Schema, NoMemory>
+    requires { IsFed kind.now None }
+    ensures { IfOk result (λ schema. schema ≡ output_fields kind.now ([] ∷ []) out) }
+{
+    match kind {
+        OpKind::Import { schema, .. } => import_schema(alloc, schema, out),
+        _ => unreachable!(),
+    }
+}
+
+/// The schema of an output, where input 0 has this schema and nothing is wrong.
+pub fn output_schema(
+    alloc: Global,
+    kind: &OpKind,
+    first: Option<&Schema>,
+    out: u32,
+) -> Result<Schema, NoMemory>
+    requires known { IsKnown kind.now }
+    requires fed { IsFed kind.now (option_copied first) }
+    requires sound { first_cause (option_causes kind.now (fields_in (option_copied first) ∷ []) ++ output_causes kind.now (fields_in (option_copied first) ∷ [])) ≡ None }
+    requires stand { OptionsStand kind.now }
+    ensures { IfOk result (λ schema. schema ≡ output_fields kind.now (fields_in (option_copied first.entry) ∷ []) out) }
+{
+    match first {
+        Some(schema) => fed_output(alloc, kind, schema, out),
+        None => source_output(alloc, kind, out),
+    }
+}
