@@ -1,6 +1,8 @@
 -- What operators by rows emit is what their rules say, output by output, and their faults.
 use Rattle.std.proofs.Common.{◌≡◌, ◌≢◌, ℕ, zero, suc, ◌+◌, ◌-◌, ◌<◌, ◌≤◌, ◌==◌, min, Bool, true, false, cond, List, [], ◌∷◌, ◌++◌, map, length, refl, sym, ap, ap₂, ◌∙◌, subst, arith}
 use Rattle.std.specs.Prelude.{ℤ, Result, Ok, Err, nat_lt, if◌then◌else◌, ⊤}
+use Rattle.std.specs.Result.{IfOk}
+use Rattle.std.proofs.lemmas.Result.{IfOk-weaker}
 use Rattle.std.specs.Ordering.{int_eq}
 use Rattle.std.specs.List.{AllByRecursion, flat_map}
 use Rattle.std.proofs.lemmas.Bool.Decides.{nat_tests}
@@ -222,3 +224,28 @@ switch_worked on_text cases reject parts rows emit w =
     fewer : (b : Bool) (q : ℕ) → length cases + 2 ≤ q → with_rejects (length cases) b ≤ q
     fewer true q l = omega (arith, l)
     fewer false q l = omega (arith, l)
+
+-- the same of an answer, where the kind is known
+pub filter_does : {E : Type 0} (k : OpKind) (test : List ℕ) (reject : Bool) (parts : OpParts) (t : TypedTree) (rows : List Row) (r : Result Emit E) → k ≡ kind.Filter test reject → t ≡ first_expr parts →
+    IfOk r (λ emit. Works (filter_rule (judged t) reject) (with_rejects 1 reject) rows emit) → IfOk r (λ emit. HasWorked k parts rows emit)
+filter_does k test reject parts t rows r known e h =
+    IfOk-weaker r (λ emit. Works (filter_rule (judged t) reject) (with_rejects 1 reject) rows emit) (λ emit. HasWorked k parts rows emit)
+    (λ emit w. subst (λ k. HasWorked k parts rows emit) (sym known) (filter_worked test reject parts rows emit (subst (λ (t : TypedTree). Works (filter_rule (judged t) reject) (with_rejects 1 reject) rows emit) e w))) h
+
+pub transform_does : {E : Type 0} (k : OpKind) (set : List SetSpec) (reject : Bool) (parts : OpParts) (sets : List Set) (rows : List Row) (r : Result Emit E) → k ≡ kind.Transform set reject → sets ≡ sets_of set parts.cols parts.exprs →
+    IfOk r (λ emit. Works (sets_rule sets reject) (with_rejects 1 reject) rows emit) → IfOk r (λ emit. HasWorked k parts rows emit)
+transform_does k set reject parts sets rows r known e h =
+    IfOk-weaker r (λ emit. Works (sets_rule sets reject) (with_rejects 1 reject) rows emit) (λ emit. HasWorked k parts rows emit)
+    (λ emit w. subst (λ k. HasWorked k parts rows emit) (sym known) (transform_worked set reject parts rows emit (subst (λ (s : List Set). Works (sets_rule s reject) (with_rejects 1 reject) rows emit) e w))) h
+
+pub modify_does : {E : Type 0} (k : OpKind) (keep drop : List (List ℕ)) (rename : List (List ℕ × List ℕ)) (parts : OpParts) (rows : List Row) (r : Result Emit E) → k ≡ kind.Modify keep drop rename →
+    IfOk r (λ emit. Works (modify_rule parts.cols) 1 rows emit) → IfOk r (λ emit. HasWorked k parts rows emit)
+modify_does k keep drop rename parts rows r known h =
+    IfOk-weaker r (λ emit. Works (modify_rule parts.cols) 1 rows emit) (λ emit. HasWorked k parts rows emit)
+    (λ emit w. subst (λ k. HasWorked k parts rows emit) (sym known) (modify_worked keep drop rename parts rows emit w)) h
+
+pub switch_does : {E : Type 0} (k : OpKind) (text : List ℕ) (cases : List ℤ) (reject : Bool) (parts : OpParts) (t : TypedTree) (rows : List Row) (r : Result Emit E) → k ≡ kind.Switch text cases reject → t ≡ first_expr parts →
+    IfOk r (λ emit. Works (switch_rule (length cases) (case_of t cases) reject) (with_rejects (length cases) reject) rows emit) → IfOk r (λ emit. HasWorked k parts rows emit)
+switch_does k text cases reject parts t rows r known e h =
+    IfOk-weaker r (λ emit. Works (switch_rule (length cases) (case_of t cases) reject) (with_rejects (length cases) reject) rows emit) (λ emit. HasWorked k parts rows emit)
+    (λ emit w. subst (λ k. HasWorked k parts rows emit) (sym known) (switch_worked text cases reject parts rows emit (subst (λ (t : TypedTree). Works (switch_rule (length cases) (case_of t cases) reject) (with_rejects (length cases) reject) rows emit) e w))) h
