@@ -1,5 +1,5 @@
 -- What is given for the numbers of a list, in whatever order they stand.
-use Rattle.std.proofs.Common.{◌≡◌, ℕ, ◌+◌, ◌<◌, ◌==◌, true, cond, inl, inr, List, [], ◌∷◌, ◌++◌, append_assoc, count_by, refl, sym, ap, ap₂, ◌∙◌, subst, arith, flat_map, IsPermutation}
+use Rattle.std.proofs.Common.{◌≡◌, ℕ, ◌+◌, ◌==◌, true, cond, inl, inr, List, [], ◌∷◌, ◌++◌, append_assoc, count_by, refl, sym, ap, ap₂, ◌∙◌, subst, arith, flat_map, IsPermutation}
 use Rattle.std.proofs.lemmas.Bool.Decides.{nat_tests}
 use Rattle.std.proofs.lemmas.Grind.{flat_map-append}
 use Rattle.std.proofs.lemmas.List.Sorted.{IsPermutation-append_comm, IsPermutation-append_left, IsPermutation-append_right, IsPermutation-refl, IsPermutation-trans}

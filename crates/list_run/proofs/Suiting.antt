@@ -1,7 +1,6 @@
 -- What waits for an operator by rows suits it, where it fits the fields of its input.
-use Rattle.std.proofs.Common.{◌≡◌, ℕ, zero, suc, ◌<◌, true, List, [], ◌∷◌, length, map, get_or, refl, sym, ap, ◌∙◌, subst, All, None, arith}
+use Rattle.std.proofs.Common.{◌≡◌, ℕ, ◌<◌, true, List, [], ◌∷◌, length, refl, sym, ap, ◌∙◌, subst, All}
 use Rattle.std.specs.List.{AllByRecursion, list_all}
-use Rattle.std.specs.Prelude.{nat_lt}
 use Rattle.std.proofs.lemmas.Bool.{lt-ltb}
 use Rattle.std.proofs.lemmas.List.Elements.{All-from_recursion}
 use Rattle.streams.proofs.Basics.{and_true}
@@ -13,12 +12,11 @@ use Rattle.op_row.specs.Expressed.{input_fields}
 use Rattle.op_row.proofs.Transformed.{fits_length}
 use Rattle.flow_graph.specs.declared.op_kind.OpKind.{OpKind}
 use Rattle.flow_graph.specs.declared.op_kind.OpKind.TheVariants as kind
-use Rattle.flow_graph.specs.Charts.{Chart, op_at, cols_at, parts_of, first_fields, first_width}
+use Rattle.flow_graph.specs.Charts.{Chart, op_at, cols_at, parts_of, first_fields}
 use Rattle.flow_graph.specs.Fitting.{FitsFields}
 use Rattle.flow_graph.specs.FlowShape.{IsShape, ColumnsLie}
 use Rattle.flow_graph.specs.RowRules.{ExprsFit, first_expr, sets_of}
-use Rattle.list_run.specs.Held.{CanTurn}
-use Rattle.list_run.specs.Worked.{CanWork, SuitsParts, SuitsRows, WorksByRow}
+use Rattle.list_run.specs.Worked.{CanWork, SuitsRows, WorksByRow}
 use Rattle.list_run.proofs.Links.{all_in}
 use Rattle.list_run.proofs.RowsKept.{Each}
 

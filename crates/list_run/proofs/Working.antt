@@ -1,12 +1,12 @@
 -- What operators by rows emit is what their rules say, output by output, and their faults.
-use Rattle.std.proofs.Common.{◌≡◌, ◌≢◌, ℕ, zero, suc, ◌+◌, ◌-◌, ◌<◌, ◌≤◌, ◌==◌, min, Bool, true, false, cond, List, [], ◌∷◌, ◌++◌, map, length, refl, sym, ap, ap₂, ◌∙◌, subst, arith}
+use Rattle.std.proofs.Common.{◌≡◌, ◌≢◌, ℕ, zero, suc, ◌+◌, ◌<◌, ◌≤◌, Bool, true, false, cond, List, [], ◌∷◌, ◌++◌, map, length, refl, sym, ap, ap₂, ◌∙◌, subst, arith}
 use Rattle.std.specs.Prelude.{ℤ, Result, Ok, Err, nat_lt, if◌then◌else◌, ⊤}
 use Rattle.std.specs.Result.{IfOk}
 use Rattle.std.proofs.lemmas.Result.{IfOk-weaker}
 use Rattle.std.specs.Ordering.{int_eq}
-use Rattle.std.specs.List.{AllByRecursion, flat_map}
+use Rattle.std.specs.List.{flat_map}
 use Rattle.std.proofs.lemmas.Bool.Decides.{nat_tests}
-use Rattle.streams.specs.Streams.{Out, Gives, emits, on, faults_out}
+use Rattle.streams.specs.Streams.{Out, Gives, emits, on}
 use Rattle.streams.proofs.StreamLaws.{eq_false}
 use Rattle.ds_value.specs.declared.value.Value.{Value}
 use Rattle.ds_expr.specs.Typed.{TypedTree}
@@ -24,16 +24,15 @@ use Rattle.op_row.specs.ByRow.{by_row}
 use Rattle.op_row.proofs.Means.{rows-alone}
 use Rattle.op_row.specs.declared.setting.Set.{Set}
 use Rattle.op_row.specs.Expressed.{sets_rule, with_rejects}
-use Rattle.op_row.specs.Judging.{judged, verdict, case_of, case_in, case_with, case_at, compute, computed_in, set_values}
+use Rattle.op_row.specs.Judging.{judged, verdict, case_of, case_in, case_at, compute, computed_in, set_values}
 use Rattle.op_row.specs.Laws.{Means}
 use Rattle.flow_graph.specs.declared.op_kind.OpKind.{OpKind}
 use Rattle.flow_graph.specs.declared.op_kind.OpKind.TheVariants as kind
 use Rattle.flow_graph.specs.declared.op_kind.SetSpec.{SetSpec}
 use Rattle.flow_graph.specs.declared.parts.OpParts.{OpParts}
-use Rattle.flow_graph.specs.RowRules.{at_op, first_expr, row_rule, sets_of}
+use Rattle.flow_graph.specs.RowRules.{at_op, first_expr, sets_of}
 use Rattle.list_run.specs.Found.{AreUnnumbered}
-use Rattle.list_run.specs.Made.{made_for}
-use Rattle.list_run.specs.Worked.{HasWorked, Works, outputs_of, place_of}
+use Rattle.list_run.specs.Worked.{HasWorked, Works, place_of}
 
 flat_none : (f : Row → List Row) (rows : List Row) → ((r : Row) → f r ≡ []) → [] ≡ flat_map f rows
 flat_none f [] h = refl

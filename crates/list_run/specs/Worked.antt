@@ -1,6 +1,6 @@
 -- Operators that work row by row, over the rows of one partition.
 use Rattle.std.specs.Prelude.{◌≡◌, ℕ, ◌+◌, ◌-◌, ◌<◌, ◌≤◌, ◌==◌, min, true, if◌then◌else◌, List, [], ◌∷◌, ◌++◌, map, get_or, length, All, ⊤}
-use Rattle.std.specs.List.{AllByRecursion, flat_map, list_all}
+use Rattle.std.specs.List.{flat_map, list_all}
 use Rattle.streams.specs.Streams.{Out, on, faults_out}
 use Rattle.ds_schema.specs.Schemas.{row_fits}
 use Rattle.expr_table.specs.declared.entry.Shape.TheVariants as shape

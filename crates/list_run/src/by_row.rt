@@ -23,12 +23,7 @@ use op_base::{Emit, Sent, run_list};
 use op_row::{Set, filter, modify, switcher, transform};
 use std::alloc::Global;
 
-fn run_filter(
-    alloc: Global,
-    test: &Typed,
-    reject: bool,
-    rows: Vec<Row>,
-) -> Result<Emit, NoMemory>
+fn run_filter(alloc: Global, test: &Typed, reject: bool, rows: Vec<Row>) -> Result<Emit, NoMemory>
     requires truth { test.now.typing.shape ≡ shape.Truth }
     requires rows { list_all (row_fits test.now.fields) rows.items ≡ true }
     ensures { IfOk result (λ emit. Works (filter_rule (judged test.now) reject) (with_rejects 1 reject) rows.items emit) }
@@ -116,12 +111,7 @@ fn sets_of(
 }
 
 /// What an operator by rows emits for the rows of one partition.
-fn work(
-    alloc: Global,
-    kind: &OpKind,
-    parts: &OpParts,
-    rows: Vec<Row>,
-) -> Result<Emit, NoMemory>
+fn work(alloc: Global, kind: &OpKind, parts: &OpParts, rows: Vec<Row>) -> Result<Emit, NoMemory>
     requires parts { SuitsParts kind.now parts.now }
     requires rows { SuitsRows kind.now parts.now rows.items }
     ensures { IfOk result (λ emit. HasWorked kind.now parts.now rows.items emit) }

@@ -1,4 +1,4 @@
-use Rattle.std.proofs.Common.{Bool, ℕ, List, [], sym, ap, ◌∙◌, subst, length}
+use Rattle.std.proofs.Common.{Bool, List, [], sym, ap, ◌∙◌, subst, length}
 use Rattle.std.specs.List.{list_all}
 use Rattle.streams.specs.Streams.{Feed}
 use Rattle.op_base.specs.Columns.{Row}

@@ -1,5 +1,4 @@
-use Rattle.std.proofs.Common.{Bool, ℕ, List, [], sym, ap, ◌∙◌, subst, length}
-use Rattle.std.specs.List.{list_all}
+use Rattle.std.proofs.Common.{Bool, List, [], sym, subst}
 use Rattle.streams.specs.Streams.{Feed}
 use Rattle.op_base.specs.Columns.{Row}
 use Rattle.op_base.specs.WholeLists.{list_feeds, SuitsEach}

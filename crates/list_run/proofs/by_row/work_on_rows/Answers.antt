@@ -1,8 +1,7 @@
-use Rattle.std.proofs.Common.{◌∙◌, sym, ap, subst, [], get_or, List, ◌∷◌}
+use Rattle.std.proofs.Common.{◌∙◌, sym, ap, subst, [], get_or, List}
 use Rattle.streams.specs.Streams.{faults_out}
 use Rattle.op_base.specs.Columns.{Row}
-use Rattle.list_run.specs.Worked.{HasWorked, outputs_of, place_of}
-use Rattle.list_run.specs.Found.{Grows}
+use Rattle.list_run.specs.Worked.{HasWorked, place_of}
 use Rattle.list_run.proofs.Splitting.{are_within, found_more, partition_made}
 use Rattle.list_run.proofs.Tallying.{further, grows_as}
 use Rattle.list_run.proofs.by_row.work_on_rows.Goals as goal
@@ -27,7 +26,7 @@ loop-rows-preserved c =
       made = (
         count,
         λ q. ap (λ n. get_or c.take_partition.new.outs.items (place_of n q) []) count
-        ∙ partition_made o k parts done rows emit outs c.take_partition.new.outs.items kept.made.0 worked takes q (sym (ap (λ n. get_or outs (place_of n q) []) kept.made.0) ∙ kept.made.1 q),
+            ∙ partition_made o k parts done rows emit outs c.take_partition.new.outs.items kept.made.0 worked takes q (sym (ap (λ n. get_or outs (place_of n q) []) kept.made.0) ∙ kept.made.1 q),
       );
       found = grows_as _ _ _ _ (found_more o k parts done rows c.requires.by_row)
           (further _ _ _ _ _ kept.found (grows_as _ _ _ _ (worked.faults_are o) (c.add.ensures (faults_out worked.given) worked.emitted.faults worked.emitted.least worked.unnumbered)));

@@ -1,4 +1,4 @@
-use Rattle.std.proofs.Common.{◌≡◌, ◌≢◌, ◌<◌, ◌≤◌, ℕ, true, length}
+use Rattle.std.proofs.Common.{◌≡◌, ◌≢◌, ◌<◌, ℕ, true}
 use Rattle.list_run.specs.Held.{leaves, place_on}
 use Rattle.list_run.proofs.run.is_last.Given as goal
 

@@ -1,4 +1,4 @@
-use Rattle.std.proofs.Common.{rules, ◌≡◌, ◌≤◌, ◌<◌, ◌+◌, ◌∙◌, [], ap, sym, true, false, cond, ℕ, Bool, length, get_or, arith}
+use Rattle.std.proofs.Common.{rules, ◌≡◌, ◌<◌, ◌+◌, ◌∙◌, [], ap, true, false, cond, ℕ, Bool, length, get_or, arith}
 use Rattle.std.specs.Prelude.{nat_lt}
 use Rattle.list_run.specs.Held.{leaves, out_on, place_on}
 use Rattle.list_run.proofs.Puts.{put_more, below_more_yes}

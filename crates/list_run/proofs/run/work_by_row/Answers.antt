@@ -1,4 +1,4 @@
-use Rattle.std.proofs.Common.{◌≡◌, ◌<◌, ◌∙◌, ℕ, [], refl, sym, ap, subst, List, length, get_or, set}
+use Rattle.std.proofs.Common.{◌<◌, ◌∙◌, [], refl, sym, ap, subst, List, get_or, set}
 use Rattle.op_base.specs.Columns.{Row}
 use Rattle.flow_graph.specs.declared.op_kind.OpKind.{OpKind}
 use Rattle.flow_graph.specs.declared.flow.OpSpec.{OpSpec}
@@ -7,7 +7,6 @@ use Rattle.flow_graph.specs.Charts.{op_at, no_op, parts_of}
 use Rattle.list_run.specs.declared.held.Held.{Held}
 use Rattle.list_run.specs.Found.{Grows, found_in}
 use Rattle.list_run.specs.Held.{out_on, outputs, worked_at}
-use Rattle.list_run.specs.Runnable.{first_into}
 use Rattle.list_run.specs.Worked.{AreMade, CanWork, WorksByRow}
 use Rattle.list_run.proofs.Links.{same_at}
 use Rattle.list_run.proofs.Puts.{put_sent}
@@ -44,8 +43,8 @@ send_outputs-requires-clause-may c =
     let spec = ap (λ os. get_or os op c.index-as_slice-op.result) (c.as_slice.ensures ∙ ap (λ f. f.ops) c.flow.ensures) ∙ same_at chart.flow.ops op c.index-as_slice-op.result no_op c.requires.op in
     let got = c.take_at-got.ensures.list ∙ ap (λ i. get_or olds i []) c.input_of.ensures in
     let made = subst (λ (ls : List (List Row)). AreMade op (op_at chart op).kind (parts_of chart op) ls c.in_ok-outs.outs.items) got
-        (subst (λ (p : OpParts). AreMade op (op_at chart op).kind p c.take_at-got.result c.in_ok-outs.outs.items) c.parts.ensures
-        (subst (λ (k : OpKind). AreMade op k c.parts.result.now c.take_at-got.result c.in_ok-outs.outs.items) (ap (λ (s : OpSpec). s.kind) spec) c.in_ok-outs.ensures.made)) in
+    (subst (λ (p : OpParts). AreMade op (op_at chart op).kind p c.take_at-got.result c.in_ok-outs.outs.items) c.parts.ensures
+    (subst (λ (k : OpKind). AreMade op k c.parts.result.now c.take_at-got.result c.in_ok-outs.outs.items) (ap (λ (s : OpSpec). s.kind) spec) c.in_ok-outs.ensures.made)) in
     may_as chart c.args.nodes op (worked_at chart op c.args.held.now) (out_on chart c.in_ok-outs.outs.items) (λ l e. sym (made.1 _)) c.requires.may
 
 pub returns : goal.returns
@@ -57,11 +56,11 @@ returns c =
     let kind = ap (λ (s : OpSpec). s.kind) spec in
     let got = c.take_at-got.ensures.list ∙ ap (λ i. get_or olds i []) c.input_of.ensures in
     let made = subst (λ (ls : List (List Row)). AreMade op (op_at chart op).kind (parts_of chart op) ls c.in_ok-outs.outs.items) got
-        (subst (λ (p : OpParts). AreMade op (op_at chart op).kind p c.take_at-got.result c.in_ok-outs.outs.items) c.parts.ensures
-        (subst (λ (k : OpKind). AreMade op k c.parts.result.now c.take_at-got.result c.in_ok-outs.outs.items) kind c.in_ok-outs.ensures.made)) in
+    (subst (λ (p : OpParts). AreMade op (op_at chart op).kind p c.take_at-got.result c.in_ok-outs.outs.items) c.parts.ensures
+    (subst (λ (k : OpKind). AreMade op k c.parts.result.now c.take_at-got.result c.in_ok-outs.outs.items) kind c.in_ok-outs.ensures.made)) in
     let found = subst (λ (ls : List (List Row)). Grows c.args.held.now.tally c.work_on_rows.new.tally (found_in op (op_at chart op).kind (parts_of chart op) ls)) got
-        (subst (λ (p : OpParts). Grows c.args.held.now.tally c.work_on_rows.new.tally (found_in op (op_at chart op).kind p c.take_at-got.result)) c.parts.ensures
-        (subst (λ (k : OpKind). Grows c.args.held.now.tally c.work_on_rows.new.tally (found_in op k c.parts.result.now c.take_at-got.result)) kind c.in_ok-outs.ensures.found)) in
+    (subst (λ (p : OpParts). Grows c.args.held.now.tally c.work_on_rows.new.tally (found_in op (op_at chart op).kind p c.take_at-got.result)) c.parts.ensures
+    (subst (λ (k : OpKind). Grows c.args.held.now.tally c.work_on_rows.new.tally (found_in op k c.parts.result.now c.take_at-got.result)) kind c.in_ok-outs.ensures.found)) in
     let mid : Held = record { waiting = c.take_at-got.new.lists; counts = c.args.held.now.counts; sinks = c.args.held.now.sinks; tally = c.work_on_rows.new.tally } in
     record {
       mid = mid;
