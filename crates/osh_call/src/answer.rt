@@ -1,6 +1,6 @@
 use config_read::ConfigWhy;
 use ds_value::Name;
-use flow_shape::ShapeWhy;
+use op_shape::ShapeWhy;
 use osh_read::OshWhy;
 
 /// How a call ends.

@@ -7,7 +7,7 @@ ghost use Rattle.osh_ends.specs.Leaves.{line, flow_why_text, config_why_text, sh
 
 use config_read::ConfigWhy;
 use ds_value::{Bytes, Name, NoMemory};
-use flow_shape::ShapeWhy;
+use op_shape::ShapeWhy;
 use osh_read::OshWhy;
 use std::alloc::{AllocError, Global};
 

@@ -35,6 +35,10 @@ same_op files c o (kind.Import file schema delim fixed reject) ins a b stands no
     x.4 ∙ ap₂ (λ ls bs. import ls reject (beyond o bs)) lines bytes ∙ sym y.4
 same_op files c o (kind.Export file delim fixed) ins a b stands none x y = x ∙ sym y
 same_op files c o kind.Copy ins a b stands none x y = x ∙ sym y
+same_op files c o (kind.Filter test reject) ins a b stands none x y = x ∙ sym y
+same_op files c o (kind.Transform set reject) ins a b stands none x y = x ∙ sym y
+same_op files c o (kind.Modify keep drop rename) ins a b stands none x y = x ∙ sym y
+same_op files c o (kind.Switch on cases reject) ins a b stands none x y = x ∙ sym y
 same_op files c o (kind.Tsort key) ins a b stands none x y = x ∙ sym y
 same_op files c o (kind.Remdup key last) ins a b stands none x y = x ∙ sym y
 same_op files c o k ins a b stands none x y = absurd x

@@ -17,8 +17,9 @@ use Rattle.flow_files.proofs.Growing.{further, same}
 use Rattle.flow_graph.specs.declared.flow.OpSpec.{OpSpec}
 use Rattle.flow_graph.specs.declared.op_kind.OpKind.{OpKind}
 use Rattle.flow_graph.specs.declared.op_kind.OpKind.TheVariants as kind
-use Rattle.flow_graph.specs.Charts.{Chart, keys_at, no_op, op_at}
+use Rattle.flow_graph.specs.Charts.{Chart, keys_at, no_op, op_at, parts_of}
 use Rattle.flow_graph.specs.Operators.{Op, by_row, faults, import, remdup, tsort}
+use Rattle.flow_graph.specs.RowRules.{row_rule}
 use Rattle.flow_score.proofs.Ranges.{range_more}
 use Rattle.flow_sound.specs.Tallies.{faults_read, if_import}
 use Rattle.flow_sound.proofs.Members.{below_range}
@@ -40,6 +41,10 @@ is_read files c o (kind.Import file schema delim fixed reject) rows rejected old
     let i = h.2 in (import i.lines reject (beyond o h.0), (h.0, i.lines, h.1, i.are, refl), i.rows_are, i.rejected_are, i.faults)
 is_read files c o (kind.Export file delim fixed) rows rejected old new b h = (by_row (sink_rule (export_faults o (form delim fixed) (fields_of c (input_of c o)))), refl, h.0, h.1, h.2)
 is_read files c o kind.Copy rows rejected old new b h = (by_row copy_rule, refl, h.0, h.1, h.2)
+is_read files c o (kind.Filter test reject) rows rejected old new b h = (by_row (row_rule o (kind.Filter test reject) (parts_of c o)), refl, h.0, h.1, h.2)
+is_read files c o (kind.Transform set reject) rows rejected old new b h = (by_row (row_rule o (kind.Transform set reject) (parts_of c o)), refl, h.0, h.1, h.2)
+is_read files c o (kind.Modify keep drop rename) rows rejected old new b h = (by_row (row_rule o (kind.Modify keep drop rename) (parts_of c o)), refl, h.0, h.1, h.2)
+is_read files c o (kind.Switch on cases reject) rows rejected old new b h = (by_row (row_rule o (kind.Switch on cases reject) (parts_of c o)), refl, h.0, h.1, h.2)
 is_read files c o (kind.Tsort key) rows rejected old new b h = (tsort (get_keys (keys_at c o) 0), refl, h.0, h.1, h.2)
 is_read files c o (kind.Remdup key last) rows rejected old new b h = (remdup last (get_keys (keys_at c o) 0), refl, h.0, h.1, h.2)
 is_read files c o k rows rejected old new b h = cc

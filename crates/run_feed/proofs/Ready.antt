@@ -16,6 +16,7 @@ use Rattle.flow_graph.specs.declared.op_kind.OpKind.TheVariants as kind
 use Rattle.flow_graph.specs.declared.parts.Stored.{Stored}
 use Rattle.flow_graph.specs.declared.route.Choice.{Choice}
 use Rattle.flow_graph.specs.Charts.{Chart, all_links, cols_at, first_width, into_seq, is_seq, keys_at, kind_form, link_at, links_from, links_into, no_link, no_op, op_at, width_at}
+use Rattle.flow_graph.specs.Fitting.{FitsFields, KeepsFields, PassesFields}
 use Rattle.flow_graph.specs.FlowShape.{FormPorts, IsShape, WrittenFits}
 use Rattle.flow_rules.specs.Verdicts.{choice_at, written_or_same}
 use Rattle.flow_score.specs.Scores.{choice_of, degree, degree_at as score_degree, is_same, no_choice}
@@ -26,10 +27,12 @@ use Rattle.flow_shape.specs.Refusals.{fields_at, inputs_at, written_at}
 use Rattle.flow_shape.proofs.Causing.{all_at}
 use Rattle.flow_shape.proofs.Holding.{first_of}
 use Rattle.flow_shape.proofs.Orders.{and_parts}
+use Rattle.flow_sound.specs.Fitting.{IsByRow}
 use Rattle.flow_sound.proofs.Fitting.{given_there}
 use Rattle.flow_sound.proofs.Order.{leaves_it}
+use Rattle.flow_sound.proofs.RowsStaying.{rows_stay}
 use Rattle.list_run.specs.Routed.{Joins}
-use Rattle.list_run.specs.Runnable.{CanRun, IsBuilt, IsRow, degree_at}
+use Rattle.list_run.specs.Runnable.{CanRun, IsBuilt, degree_at}
 use Rattle.osh_ends.specs.Built.{is_built, is_built_link, is_built_method, is_built_op, is_prop, needs_sort}
 use Rattle.osh_sound.specs.Sound.{MarkFits}
 use Rattle.run_feed.specs.Fed.{IsReady}
@@ -53,27 +56,32 @@ none_of : (ls : List ℕ) → (length ls == 0) ≡ true → ls ≡ []
 none_of [] e = refl
 none_of (l ∷ ls) e = absurd (omega (arith, eqb-true (length (l ∷ ls)) 0 e))
 
-passed : (c : Chart) (o : ℕ) → 0 < length (links_into c o) → ((l : ℕ) → IsIn l (links_from c o) → fields_at c l ≡ first_fields (inputs_at c o)) → (l : ℕ) → IsIn l (links_from c o) → width_at c l ≡ first_width c o
-passed c o h g l i = ap length (g l i ∙ first_of (fields_at c) (links_into c o) [] 0 h)
+passed : (c : Chart) (o : ℕ) → 0 < length (links_into c o) → ((l : ℕ) → IsIn l (links_from c o) → fields_at c l ≡ first_fields (inputs_at c o)) → PassesFields c o
+passed c o h g l i = g l i ∙ first_of (fields_at c) (links_into c o) [] 0 h
 
 one_some : (n : ℕ) → n ≡ 1 → 0 < n
 one_some n e = omega arith
 
 kind_runs : (c : Chart) (o : ℕ) (k : OpKind) (keys : List (List Key)) (columns : List ℕ) (stored : Option Stored) (width ins : ℕ) → is_built_op k ≡ true → MarkFits k (op_at c o).mark
     → may_have_out k ins (length (links_from c o)) ≡ true → FormPorts (kind_form k keys columns stored width) (length (links_into c o))
-    → ((l : ℕ) → IsIn l (links_from c o) → fields_at c l ≡ output_fields k (inputs_at c o) (link_at c l).out) → IsBuilt c o k
-kind_runs c o (kind.Import file schema delim fixed reject) keys columns stored width ins b m out ports g = ap is_seq m
-kind_runs c o (kind.Export file delim fixed) keys columns stored width ins b m out ports g = none_of (links_from c o) out
-kind_runs c o kind.Copy keys columns stored width ins b m out ports g = passed c o (one_some _ ports) g
-kind_runs c o (kind.Tsort key) keys columns stored width ins b m out ports g = passed c o (one_some _ ports) g
-kind_runs c o (kind.Remdup key last) keys columns stored width ins b m out ports g = passed c o (one_some _ ports) g
-kind_runs c o k keys columns stored width ins b m out ports g = cc
+    → ((l : ℕ) → IsIn l (links_from c o) → fields_at c l ≡ output_fields k (inputs_at c o) (link_at c l).out) → (IsByRow k → KeepsFields c o) → IsBuilt c o k
+kind_runs c o (kind.Import file schema delim fixed reject) keys columns stored width ins b m out ports g keeps = ap is_seq m
+kind_runs c o (kind.Export file delim fixed) keys columns stored width ins b m out ports g keeps = none_of (links_from c o) out
+kind_runs c o kind.Copy keys columns stored width ins b m out ports g keeps = passed c o (one_some _ ports) g
+kind_runs c o (kind.Filter test reject) keys columns stored width ins b m out ports g keeps = keeps tt
+kind_runs c o (kind.Transform set reject) keys columns stored width ins b m out ports g keeps = keeps tt
+kind_runs c o (kind.Modify keep drop rename) keys columns stored width ins b m out ports g keeps = keeps tt
+kind_runs c o (kind.Switch on cases reject) keys columns stored width ins b m out ports g keeps = keeps tt
+kind_runs c o (kind.Tsort key) keys columns stored width ins b m out ports g keeps = passed c o (one_some _ ports) g
+kind_runs c o (kind.Remdup key last) keys columns stored width ins b m out ports g keeps = passed c o (one_some _ ports) g
+kind_runs c o k keys columns stored width ins b m out ports g keeps = cc
 
 pub op_runs : (c : Chart) (choices : List Choice) (nodes : ℕ) → IsShape c → IsReady c choices nodes → (o : ℕ) → o < length c.flow.ops → IsBuilt c o (op_at c o).kind
 op_runs c choices nodes s r o h =
     let out = may_out c o r.shape_of h in
     kind_runs c o (op_at c o).kind (keys_at c o) (cols_at c o) (get_or c.stored o None) (first_width c o) out.0 (built_at c r.built o h) (mark_at c choices nodes r o h) out.1 (s.ops o h).inputs
     (λ l i. let leaves = leaves_it c o l i in given_there c o l (r.shape_of.schemas.fits o h) leaves.1 leaves.0)
+    (rows_stay c.flow [] c s r.shape_of o h)
 
 -- ---- degrees
 
@@ -81,6 +89,10 @@ not_stored : (k : OpKind) (m : Mark) → is_built_op k ≡ true → MarkFits k m
 not_stored (kind.Import file schema delim fixed reject) m b f e = let g = sym f ∙ e in cc
 not_stored (kind.Export file delim fixed) m b f e = let g = sym f ∙ e in cc
 not_stored kind.Copy m b f e = f e
+not_stored (kind.Filter test reject) m b f e = f e
+not_stored (kind.Transform set reject) m b f e = f e
+not_stored (kind.Modify keep drop rename) m b f e = f e
+not_stored (kind.Switch on cases reject) m b f e = f e
 not_stored (kind.Tsort key) m b f e = f e
 not_stored (kind.Remdup key last) m b f e = f e
 not_stored k m b f e = cc
@@ -144,7 +156,7 @@ link_joins c choices nodes s r l h =
 
 -- it can be run over rows of the columns of the links
 pub can_run : (c : Chart) (choices : List Choice) (nodes : ℕ) (sources : List (List Row)) → IsShape c → IsReady c choices nodes → length sources ≡ length c.flow.links
-    → ((l : ℕ) → l < length c.flow.links → All (IsRow (width_at c l)) (get_or sources l [])) → CanRun c choices nodes sources
+    → ((l : ℕ) → l < length c.flow.links → All (FitsFields (get_or c.schemas l [])) (get_or sources l [])) → CanRun c choices nodes sources
 can_run c choices nodes sources s r given rows = record {
   chosen = r.verdict.choices_are;
   some = r.some;

@@ -9,9 +9,9 @@ use Rattle.ds_schema.specs.declared.schema.Field.{Field}
 use Rattle.ds_schema.specs.Schemas.{IsField, row_fits}
 use Rattle.op_base.specs.Columns.{Row}
 use Rattle.flow_files.specs.Lines.{AllFit, AreOfLines, line_row}
+use Rattle.flow_graph.specs.Fitting.{FitsFields}
 use Rattle.flow_files.proofs.Rows.{row_is_short}
 use Rattle.op_shape.specs.Options.{line_fields}
-use Rattle.run_feed.specs.Sources.{FitsFields}
 
 few_bytes : (line : List ℕ) → length (take 65536 line) ≤ 65536
 few_bytes line = omega (arith, length-take 65536 line)

@@ -5,7 +5,6 @@ use Rattle.std.specs.List.{AllByRecursion}
 use Rattle.std.proofs.lemmas.Grind.{flat_map-append}
 use Rattle.std.proofs.lemmas.List.{append-nil}
 use Rattle.std.proofs.lemmas.List.Elements.{All-from_recursion}
-use Rattle.ds_schema.specs.declared.key.Key.{Key}
 use Rattle.ds_schema.specs.declared.schema.Field.{Field}
 use Rattle.ds_schema.specs.Schemas.{row_fits}
 use Rattle.ds_port.specs.FileMap.{FileMap}
@@ -20,49 +19,52 @@ use Rattle.flow_files.specs.Lines.{AreLinesFrom, IsLine, bad_record, beyond}
 use Rattle.flow_files.specs.Texts.{export_faults}
 use Rattle.flow_graph.specs.declared.op_kind.OpKind.{OpKind}
 use Rattle.flow_graph.specs.declared.op_kind.OpKind.TheVariants as kind
-use Rattle.flow_graph.specs.Charts.{Chart, keys_at, link_at, links_from, op_at, width_at}
+use Rattle.flow_graph.specs.declared.parts.OpParts.{OpParts}
+use Rattle.flow_graph.specs.Charts.{Chart, link_at, links_from, op_at, parts_of}
+use Rattle.flow_graph.specs.Fitting.{FitsFields}
 use Rattle.flow_graph.specs.FlowShape.{IsShape}
 use Rattle.flow_graph.specs.Operators.{Op, by_row, import, remdup, result, tsort}
-use Rattle.op_shape.specs.Options.{import_fields, line_fields, output_fields}
-use Rattle.flow_shape.specs.Refusals.{IsShapeOf, inputs_at}
+use Rattle.flow_graph.specs.RowRules.{row_rule}
+use Rattle.op_shape.specs.Options.{line_fields, made_or_rejected, output_fields}
+use Rattle.flow_shape.specs.Refusals.{IsShapeOf, fields_at, inputs_at}
 use Rattle.flow_sound.specs.Kinds.{AreOfKinds, IsOfKind, LineFits}
-use Rattle.flow_sound.proofs.Fitting.{fits_long, given_there}
+use Rattle.flow_sound.proofs.Fitting.{given_there}
 use Rattle.flow_sound.proofs.Order.{leaves_it}
-use Rattle.list_run.specs.Runnable.{IsRow, OpIs}
+use Rattle.list_run.specs.Runnable.{OpIs}
 use Rattle.osh_ends.specs.Built.{is_built, is_built_op}
 use Rattle.osh_ends.specs.FlowFiles.{IsOp, fields_of, form, input_of}
-use Rattle.run_feed.specs.Sources.{AllSuit, CanFeed, FitsFields, ReadTo, RowsSuit, Sourced, on_output, rows_on, rows_read}
+use Rattle.run_feed.specs.Sources.{AllSuit, CanFeed, ReadTo, RowsSuit, Sourced, on_output, rows_on, rows_read}
 use Rattle.run_feed.proofs.Ready.{built_at}
 use Rattle.run_feed.proofs.Rows.{line_fits}
 
 -- ---- rows
 
-all_rows : (fields : List Field) (rows : List Row) → AllByRecursion (FitsFields fields) rows → AllByRecursion (IsRow (length fields)) rows
-all_rows fields [] h = tt
-all_rows fields (r ∷ rows) h = ((fits_long fields r h.0.0, h.0.1), all_rows fields rows h.1)
+on_rows : (schema : List Field) (q : ℕ) (rows rejected : List Row) → AllByRecursion (FitsFields schema) rows → AllByRecursion (FitsFields line_fields) rejected → AllByRecursion (FitsFields (made_or_rejected schema line_fields q)) (on_output q rows rejected)
+on_rows schema zero rows rejected h k = h
+on_rows schema (suc q) rows rejected h k = k
 
-on_rows : (schema : List Field) (q : ℕ) (rows rejected : List Row) → AllByRecursion (FitsFields schema) rows → AllByRecursion (FitsFields line_fields) rejected → AllByRecursion (IsRow (length (import_fields schema q))) (on_output q rows rejected)
-on_rows schema zero rows rejected h k = all_rows schema rows h
-on_rows schema (suc q) rows rejected h k = all_rows line_fields rejected k
+on_none : (fields : List Field) (q : ℕ) (rows rejected : List Row) → (rows ≡ []) × (rejected ≡ []) → AllByRecursion (FitsFields fields) (on_output q rows rejected)
+on_none fields zero rows rejected e = subst (AllByRecursion (FitsFields fields)) (sym e.0) tt
+on_none fields (suc q) rows rejected e = subst (AllByRecursion (FitsFields fields)) (sym e.1) tt
 
-on_none : (width q : ℕ) (rows rejected : List Row) → (rows ≡ []) × (rejected ≡ []) → AllByRecursion (IsRow width) (on_output q rows rejected)
-on_none width zero rows rejected e = subst (AllByRecursion (IsRow width)) (sym e.0) tt
-on_none width (suc q) rows rejected e = subst (AllByRecursion (IsRow width)) (sym e.1) tt
+rows_by : (k : OpKind) (ins : List (List Field)) (q : ℕ) (fields : List Field) (rows rejected : List Row) → is_built_op k ≡ true → fields ≡ output_fields k ins q → RowsSuit k rows rejected → AllByRecursion (FitsFields fields) (on_output q rows rejected)
+rows_by (kind.Import file schema delim fixed reject) ins q fields rows rejected b e h = subst (λ fs. AllByRecursion (FitsFields fs) (on_output q rows rejected)) (sym e) (on_rows schema q rows rejected h.0 h.1)
+rows_by (kind.Export file delim fixed) ins q fields rows rejected b e h = on_none fields q rows rejected h
+rows_by kind.Copy ins q fields rows rejected b e h = on_none fields q rows rejected h
+rows_by (kind.Filter test reject) ins q fields rows rejected b e h = on_none fields q rows rejected h
+rows_by (kind.Transform set reject) ins q fields rows rejected b e h = on_none fields q rows rejected h
+rows_by (kind.Modify keep drop rename) ins q fields rows rejected b e h = on_none fields q rows rejected h
+rows_by (kind.Switch on cases reject) ins q fields rows rejected b e h = on_none fields q rows rejected h
+rows_by (kind.Tsort key) ins q fields rows rejected b e h = on_none fields q rows rejected h
+rows_by (kind.Remdup key last) ins q fields rows rejected b e h = on_none fields q rows rejected h
+rows_by k ins q fields rows rejected b e h = cc
 
-rows_by : (k : OpKind) (ins : List (List Field)) (q width : ℕ) (rows rejected : List Row) → is_built_op k ≡ true → width ≡ length (output_fields k ins q) → RowsSuit k rows rejected → AllByRecursion (IsRow width) (on_output q rows rejected)
-rows_by (kind.Import file schema delim fixed reject) ins q width rows rejected b e h = subst (λ w. AllByRecursion (IsRow w) (on_output q rows rejected)) (sym e) (on_rows schema q rows rejected h.0 h.1)
-rows_by (kind.Export file delim fixed) ins q width rows rejected b e h = on_none width q rows rejected h
-rows_by kind.Copy ins q width rows rejected b e h = on_none width q rows rejected h
-rows_by (kind.Tsort key) ins q width rows rejected b e h = on_none width q rows rejected h
-rows_by (kind.Remdup key last) ins q width rows rejected b e h = on_none width q rows rejected h
-rows_by k ins q width rows rejected b e h = cc
-
-pub link_rows : (c : Chart) (rows rejected : List (List Row)) (l : ℕ) → IsShape c → IsShapeOf c.flow [] c → is_built c.flow ≡ true → AllSuit c (length c.flow.ops) rows rejected → l < length c.flow.links → All (IsRow (width_at c l)) (rows_on c rows rejected l)
+pub link_rows : (c : Chart) (rows rejected : List (List Row)) (l : ℕ) → IsShape c → IsShapeOf c.flow [] c → is_built c.flow ≡ true → AllSuit c (length c.flow.ops) rows rejected → l < length c.flow.links → All (FitsFields (fields_at c l)) (rows_on c rows rejected l)
 link_rows c rows rejected l s f u suits h =
     let o = (link_at c l).from in
     let b = (s.links l h).from in
-    All-from_recursion (IsRow (width_at c l)) (rows_on c rows rejected l)
-    (rows_by (op_at c o).kind (inputs_at c o) (link_at c l).out (width_at c l) (get_or rows o []) (get_or rejected o []) (built_at c u o b) (ap length (given_there c o l (f.schemas.fits o b) h refl)) (suits o b))
+    All-from_recursion (FitsFields (fields_at c l)) (rows_on c rows rejected l)
+    (rows_by (op_at c o).kind (inputs_at c o) (link_at c l).out (fields_at c l) (get_or rows o []) (get_or rejected o []) (built_at c u o b) (given_there c o l (f.schemas.fits o b) h refl) (suits o b))
 
 -- ---- operators of such rows
 
@@ -73,12 +75,16 @@ rejected_as row = bad row (bad_record 0 0 [])
 abbrev lines_for : List Row → List Row → List Line
 lines_for rows rejected = map good rows ++ map rejected_as rejected
 
-op_for : OpKind → List (List Key) → List Row → List Row → Op
-op_for (kind.Import file schema delim fixed reject) keys rows rejected = import (lines_for rows rejected) reject []
-op_for (kind.Export file delim fixed) keys rows rejected = by_row (sink_rule (λ r. []))
-op_for (kind.Tsort key) keys rows rejected = tsort (get_keys keys 0)
-op_for (kind.Remdup key last) keys rows rejected = remdup last (get_keys keys 0)
-op_for k keys rows rejected = by_row copy_rule
+op_for : ℕ → OpKind → OpParts → List Row → List Row → Op
+op_for o (kind.Import file schema delim fixed reject) parts rows rejected = import (lines_for rows rejected) reject []
+op_for o (kind.Export file delim fixed) parts rows rejected = by_row (sink_rule (λ r. []))
+op_for o (kind.Filter test reject) parts rows rejected = by_row (row_rule o (kind.Filter test reject) parts)
+op_for o (kind.Transform set reject) parts rows rejected = by_row (row_rule o (kind.Transform set reject) parts)
+op_for o (kind.Modify keep drop rename) parts rows rejected = by_row (row_rule o (kind.Modify keep drop rename) parts)
+op_for o (kind.Switch on cases reject) parts rows rejected = by_row (row_rule o (kind.Switch on cases reject) parts)
+op_for o (kind.Tsort key) parts rows rejected = tsort (get_keys parts.keys 0)
+op_for o (kind.Remdup key last) parts rows rejected = remdup last (get_keys parts.keys 0)
+op_for o k parts rows rejected = by_row copy_rule
 
 good_fit : (schema : List Field) (rows : List Row) → AllByRecursion (FitsFields schema) rows → AllByRecursion (LineFits schema) (map good rows)
 good_fit schema [] h = tt
@@ -114,25 +120,33 @@ output_parts (suc q) rows rejected = refl
 lines_give : (q : ℕ) (rejects : Bool) (rows rejected : List Row) → (rejects ≡ false → rejected ≡ []) → flat_map (line_rows q rejects) (lines_for rows rejected) ≡ on_output q rows rejected
 lines_give q rejects rows rejected n = flat_map-append (line_rows q rejects) (map good rows) (map rejected_as rejected) ∙ ap₂ (λ a b. a ++ b) (good_rows q rejects rows) (rejected_rows q rejects rejected n) ∙ output_parts q rows rejected
 
-for_kind : (k : OpKind) (keys : List (List Key)) (rows rejected : List Row) → is_built_op k ≡ true → RowsSuit k rows rejected → IsOfKind k keys (op_for k keys rows rejected)
+for_kind : (o : ℕ) (k : OpKind) (parts : OpParts) (rows rejected : List Row) → is_built_op k ≡ true → RowsSuit k rows rejected → IsOfKind o k parts (op_for o k parts rows rejected)
 unfolding op_for
-for_kind (kind.Import file schema delim fixed reject) keys rows rejected b h =
+for_kind o (kind.Import file schema delim fixed reject) parts rows rejected b h =
     (lines_for rows rejected, [], all_append (LineFits schema) (map good rows) (map rejected_as rejected) (good_fit schema rows h.0) (rejected_fit schema rejected h.1), refl)
-for_kind (kind.Export file delim fixed) keys rows rejected b h = (λ r. [], refl)
-for_kind kind.Copy keys rows rejected b h = refl
-for_kind (kind.Tsort key) keys rows rejected b h = refl
-for_kind (kind.Remdup key last) keys rows rejected b h = refl
-for_kind k keys rows rejected b h = cc
+for_kind o (kind.Export file delim fixed) parts rows rejected b h = (λ r. [], refl)
+for_kind o kind.Copy parts rows rejected b h = refl
+for_kind o (kind.Filter test reject) parts rows rejected b h = refl
+for_kind o (kind.Transform set reject) parts rows rejected b h = refl
+for_kind o (kind.Modify keep drop rename) parts rows rejected b h = refl
+for_kind o (kind.Switch on cases reject) parts rows rejected b h = refl
+for_kind o (kind.Tsort key) parts rows rejected b h = refl
+for_kind o (kind.Remdup key last) parts rows rejected b h = refl
+for_kind o k parts rows rejected b h = cc
 
 -- what is on the links that leave an operator
 abbrev OnLinks : Chart → List (List Row) → ℕ → List Row → List Row → Type 0
 OnLinks c sources o rows rejected = (l : ℕ) → IsIn l (links_from c o) → get_or sources l [] ≡ on_output (link_at c l).out rows rejected
 
-for_links : (c : Chart) (sources : List (List Row)) (o : ℕ) (k : OpKind) (rows rejected : List Row) → is_built_op k ≡ true → RowsSuit k rows rejected → OnLinks c sources o rows rejected → OpIs c sources o (op_for k (keys_at c o) rows rejected) k
+for_links : (c : Chart) (sources : List (List Row)) (o : ℕ) (k : OpKind) (rows rejected : List Row) → is_built_op k ≡ true → RowsSuit k rows rejected → OnLinks c sources o rows rejected → OpIs c sources o (op_for o k (parts_of c o) rows rejected) k
 unfolding op_for
 for_links c sources o (kind.Import file schema delim fixed reject) rows rejected b s h = ((lines_for rows rejected, reject, [], refl), λ l i. lines_give (link_at c l).out reject rows rejected s.2 ∙ sym (h l i))
 for_links c sources o (kind.Export file delim fixed) rows rejected b s h = (λ r. [], refl)
 for_links c sources o kind.Copy rows rejected b s h = refl
+for_links c sources o (kind.Filter test reject) rows rejected b s h = refl
+for_links c sources o (kind.Transform set reject) rows rejected b s h = refl
+for_links c sources o (kind.Modify keep drop rename) rows rejected b s h = refl
+for_links c sources o (kind.Switch on cases reject) rows rejected b s h = refl
 for_links c sources o (kind.Tsort key) rows rejected b s h = refl
 for_links c sources o (kind.Remdup key last) rows rejected b s h = refl
 for_links c sources o k rows rejected b s h = cc
@@ -146,10 +160,10 @@ pub can_feed : (c : Chart) (rows rejected sources : List (List Row)) → IsShape
     → length sources ≡ length c.flow.links → ((l : ℕ) → l < length c.flow.links → get_or sources l [] ≡ rows_on c rows rejected l) → CanFeed c sources
 can_feed c rows rejected sources s f u suits given each = record {
   given = given;
-  rows = λ l h. subst (All (IsRow (width_at c l))) (sym (each l h)) (link_rows c rows rejected l s f u suits h);
+  rows = λ l h. subst (All (FitsFields (fields_at c l))) (sym (each l h)) (link_rows c rows rejected l s f u suits h);
   kinds = (
-    λ o. op_for (op_at c o).kind (keys_at c o) (get_or rows o []) (get_or rejected o []),
-    λ o h. for_kind (op_at c o).kind (keys_at c o) (get_or rows o []) (get_or rejected o []) (built_at c u o h) (suits o h),
+    λ o. op_for o (op_at c o).kind (parts_of c o) (get_or rows o []) (get_or rejected o []),
+    λ o h. for_kind o (op_at c o).kind (parts_of c o) (get_or rows o []) (get_or rejected o []) (built_at c u o h) (suits o h),
     λ o h. for_links c sources o (op_at c o).kind (get_or rows o []) (get_or rejected o []) (built_at c u o h) (suits o h) (on_links c rows rejected sources each o),
   );
 }
@@ -176,6 +190,10 @@ op_is files c sources o (kind.Import file schema delim fixed reject) op rows rej
     )
 op_is files c sources o (kind.Export file delim fixed) op rows rejected b h e f on = (export_faults o (form delim fixed) (fields_of c (input_of c o)), h)
 op_is files c sources o kind.Copy op rows rejected b h e f on = h
+op_is files c sources o (kind.Filter test reject) op rows rejected b h e f on = h
+op_is files c sources o (kind.Transform set reject) op rows rejected b h e f on = h
+op_is files c sources o (kind.Modify keep drop rename) op rows rejected b h e f on = h
+op_is files c sources o (kind.Switch test cases reject) op rows rejected b h e f on = h
 op_is files c sources o (kind.Tsort key) op rows rejected b h e f on = h
 op_is files c sources o (kind.Remdup key last) op rows rejected b h e f on = h
 op_is files c sources o k op rows rejected b h e f on = cc
@@ -190,10 +208,14 @@ items_fit form fields o n [] (item ∷ items) h = absurd h
 items_fit form fields o n (line ∷ lines) [] h = absurd h
 items_fit form fields o n (line ∷ lines) (item ∷ items) h = (item_fits form fields o n line item h.0, items_fit form fields o (suc n) lines items h.1)
 
-op_of_kind : (files : FileMap) (c : Chart) (o : ℕ) (k : OpKind) (op : Op) → IsOp files c o k op → IsOfKind k (keys_at c o) op
+op_of_kind : (files : FileMap) (c : Chart) (o : ℕ) (k : OpKind) (op : Op) → IsOp files c o k op → IsOfKind o k (parts_of c o) op
 op_of_kind files c o (kind.Import file schema delim fixed reject) op h = (h.1, beyond o h.0, items_fit (form delim fixed) schema o 1 _ h.1 h.3, h.4)
 op_of_kind files c o (kind.Export file delim fixed) op h = (export_faults o (form delim fixed) (fields_of c (input_of c o)), h)
 op_of_kind files c o kind.Copy op h = h
+op_of_kind files c o (kind.Filter test reject) op h = h
+op_of_kind files c o (kind.Transform set reject) op h = h
+op_of_kind files c o (kind.Modify keep drop rename) op h = h
+op_of_kind files c o (kind.Switch on cases reject) op h = h
 op_of_kind files c o (kind.Tsort key) op h = h
 op_of_kind files c o (kind.Remdup key last) op h = h
 op_of_kind files c o k op h = absurd h

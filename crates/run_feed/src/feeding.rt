@@ -16,8 +16,8 @@ use flow_graph::{Choice, Shaped};
 use list_run::{Ran, run_lists};
 use std::alloc::Global;
 
-/// Reads the files of the imports, and runs the flow over their rows. The faults of the imports go
-/// into the tally, which is of no use after an error.
+/// Reads the files of the imports, and runs the flow over their rows. The faults of the imports and
+/// those that the run found go into the tally, which is of no use after an error.
 pub fn feed<F: Files>(
     alloc: Global,
     files: &mut F,
@@ -36,7 +36,10 @@ pub fn feed<F: Files>(
     shaped.is_shaped();
     let sources = import_all(alloc, files, shaped, tally)?;
     match run_lists(alloc, shaped, choices, nodes, sources) {
-        Ok(ran) => Ok(ran),
+        Ok(mut ran) => {
+            tally.add_emitted(ran.faults, ran.least.take());
+            Ok(ran)
+        }
         Err(_) => Err(FeedFault::Memory),
     }
 }

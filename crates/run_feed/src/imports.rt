@@ -6,12 +6,13 @@ ghost use Rattle.ds_port.specs.FileMap.{file_at};
 ghost use Rattle.ds_text.specs.Forms.{FormFits};
 ghost use Rattle.flow_files.specs.Lines.{Imports};
 ghost use Rattle.flow_graph.specs.Charts.{op_at};
+ghost use Rattle.flow_graph.specs.Fitting.{FitsFields};
 ghost use Rattle.osh_ends.specs.Built.{is_built, is_built_op};
 ghost use Rattle.osh_ends.specs.FlowFiles.{first_missing, missing_of, form};
 ghost use Rattle.op_shape.specs.Options.{line_fields};
 ghost use Rattle.flow_shape.specs.Refusals.{IsShapeOf};
 ghost use Rattle.osh_sound.specs.Sound.{KeepsForms};
-ghost use Rattle.run_feed.specs.Sources.{AllSuit, CanFeed, CanRead, FitsFields, ReadTo, ReadsFile, RowsSuit, Sourced};
+ghost use Rattle.run_feed.specs.Sources.{AllSuit, CanFeed, CanRead, ReadTo, ReadsFile, RowsSuit, Sourced};
 ghost use Rattle.std.specs.List.{AllByRecursion};
 
 use crate::fault::FeedFault;

@@ -22,7 +22,7 @@ use Rattle.flow_rules.specs.Verdicts.{nodes_of}
 use Rattle.flow_outputs.specs.Outputs as outputs
 use Rattle.flow_outputs.specs.Outputs.{MakesSome}
 use Rattle.flow_shape.specs.Refusals.{all_ops}
-use Rattle.flow_sound.specs.Tallies.{faults_read, faults_written, tallied}
+use Rattle.flow_sound.specs.Tallies.{faults_before, faults_written, tallied}
 use Rattle.flow_sound.proofs.Members.{all_permuted}
 use Rattle.flow_sound.proofs.Tallying.{run_tallied}
 use Rattle.list_run.specs.declared.ran.Ran.{Ran}
@@ -70,7 +70,7 @@ least_permuted xs ys (Some f) p h = record {
   none_below = all_permuted (λ g. fault_cmp f g ≢ Greater) xs ys p h.none_below;
 }
 
-tallies_permuted : (xs ys : List Fault) (t : Tally) → IsPermutation xs ys → Tallies xs t → Tallies ys t
+pub tallies_permuted : (xs ys : List Fault) (t : Tally) → IsPermutation xs ys → Tallies xs t → Tallies ys t
 tallies_permuted xs ys t p h = record { number = h.number ∙ ap (counted 0) (sym (length_permutation xs ys p)); least = least_permuted xs ys t.least p h.least }
 
 pub come : (files : FileMap) (c : Chart) (states : List State) (choices : List Choice) (ran : Ran) (tally : Tally) (r : IsRun files c states choices ran tally) → ComeAt c ran.sinks r.run.got
@@ -82,7 +82,7 @@ pub meant_tallied : (files : FileMap) (c : Chart) (states : List State) (choices
 meant_tallied files c states choices ran old new r g =
     tallies_permuted (tallied c r.ops (λ l. joined (r.run.got l))) (meant_faults r.whole (nodes_of c r.ops)) new
     (run_tallied false c.flow [] c states choices r.ops r.whole r.run r.accepted)
-    (g (flat_map (faults_read c r.ops) (all_ops c)) r.tally)
+    (g (faults_before c r.ops (λ l. joined (r.run.got l))) r.tally)
 
 done_end : (c : Chart) (states : List State) (choices : List Choice) (nodes : ℕ) (whole : ℕ → List Row) (parts : ℕ → List (List Row)) (fs : List Fault) → fs ≡ [] → MeetsGrades c states whole parts
     → Finishes c states choices nodes whole fs (done (files_of c parts) (report c states choices nodes whole))

@@ -18,9 +18,9 @@ use flow_rules::Verdict;
 use list_run::Ran;
 use std::alloc::Global;
 
-/// Writes what came at the exports. Where neither an import nor an export had a fault the outputs
-/// become files and the numbers of rows are reported; else no file is made, and the faults are
-/// reported. `tally` has the faults of the imports.
+/// Writes what came at the exports. Where no operator had a fault the outputs become files and the
+/// numbers of rows are reported; else no file is made, and the faults are reported. `tally` has the
+/// faults of the imports and of the operators that work row by row.
 pub fn finish_run<F: Files, O: Sink>(
     alloc: Global,
     files: &mut F,

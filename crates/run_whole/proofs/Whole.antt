@@ -3,6 +3,7 @@ use Rattle.std.proofs.Common.{◌≡◌, ◌≤◌, inl, inr, ℕ, Bool, List, [
 use Rattle.std.proofs.lemmas.List.FromFn.{length-map-range_with_len}
 use Rattle.ds_port.specs.Causes.{Rose}
 use Rattle.ds_port.specs.FileMap.{FileMap}
+use Rattle.op_base.specs.Lists.{joined}
 use Rattle.flow_files.specs.declared.tally.Tally.{Tally}
 use Rattle.flow_files.specs.Tallies.{Tallies}
 use Rattle.flow_graph.specs.declared.route.Choice.{Choice}
@@ -13,6 +14,7 @@ use Rattle.flow_rules.specs.declared.verdict.Verdict.{Verdict}
 use Rattle.flow_rules.specs.declared.verdict.Verdict.TheVariants.{Accepted, Refused}
 use Rattle.flow_rules.specs.Verdicts.{IsVerdict, choice_at}
 use Rattle.flow_score.specs.VerdictText.{IsOf}
+use Rattle.flow_sound.specs.Tallies.{faults_before}
 use Rattle.list_run.specs.declared.ran.Ran.{Ran}
 use Rattle.osh_ends.specs.Ends.{End, RunsTo}
 use Rattle.osh_ends.specs.Leaves.{Broke}
@@ -22,7 +24,7 @@ use Rattle.run_finish.specs.declared.ending.Ending.{Ending}
 use Rattle.run_finish.specs.declared.ending.Ending.TheVariants as ending
 use Rattle.run_finish.specs.Finished.{Ends, IsRun}
 use Rattle.run_finish.specs.Written.{CanWriteAll}
-use Rattle.run_finish.proofs.Closing.{rose_later}
+use Rattle.run_finish.proofs.Closing.{rose_later, tallies_permuted}
 use Rattle.run_finish.proofs.Exporting.{can_write_all}
 
 pub is_of : (regains : Bool) (c : Chart) (v : Verdict) → IsVerdict regains c v → IsOf c v
@@ -46,7 +48,7 @@ is_run files c states choices ran old new t f = record {
   counts = f.counts;
   sinks = f.sinks;
   grades = f.grades;
-  tally = f.tally [] t;
+  tally = tallies_permuted f.found (faults_before c f.ops (λ l. joined (f.run.got l))) new f.same (f.tally [] t);
 }
 
 -- what broke, where a count that rose later rose
