@@ -1,5 +1,5 @@
 -- What is read as the value of an option can be spelled as one.
-use Rattle.std.proofs.Common.{◌≡◌, ◌≤◌, ◌-◌, ◌⊎◌, inl, inr, ℕ, zero, suc, ℤ, FitsSigned, w64, ◌<◌, ◌^◌, lit<, drop, List, [], ◌∷◌, ◌++◌, length, Bool, true, false, Result, Ok, Err, Option, Some, None, refl, sym, ap, ◌∙◌, subst, append_assoc, arith, length-append}
+use Rattle.std.proofs.Common.{◌≡◌, ◌≤◌, ◌-◌, ◌⊎◌, inl, inr, ℕ, zero, suc, ℤ, FitsSigned, w64, drop, List, [], ◌∷◌, ◌++◌, length, Bool, true, false, Result, Ok, Err, Option, Some, None, refl, sym, ap, ◌∙◌, subst, append_assoc, arith, length-append}
 use Rattle.std.specs.Prelude.{if◌then◌else◌, not, ◌&&◌, ◌||◌, ◌==◌, nat_le, nat_lt, codes}
 use Rattle.std.specs.List.{AllByRecursion, list_all}
 use Rattle.std.specs.Option.{option_map}
@@ -190,7 +190,7 @@ left_alone bytes (t ∷ ts) us h = by (bytes_eq t.bytes bytes) h
     by false e = ap (λ (p : Bool × List Lexeme). p.1) e
 
 case_ranges : (minus : Bool) (n : ℕ) → n ≤ greatest_case minus → FitsSigned w64 (signed_case minus n)
-case_ranges true zero h = (let k : 0 < 2 ^ 63 = lit< tt in k)
+case_ranges true zero h = omega arith
 case_ranges true (suc n) h = omega arith
 case_ranges false n h = omega arith
 
