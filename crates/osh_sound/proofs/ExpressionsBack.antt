@@ -1,5 +1,5 @@
 -- What is kept of an expression is kept of itself, also behind a blank.
-use Rattle.std.proofs.Common.{◌≡◌, ◌≤◌, ◌<◌, ◌+◌, ◌-◌, ℕ, List, [], ◌∷◌, ◌++◌, length, drop, take, Option, Some, None, Result, Ok, Err, refl, sym, ap, ◌∙◌, subst, arith, length-append}
+use Rattle.std.proofs.Common.{◌≡◌, ◌≤◌, ◌+◌, ◌-◌, ℕ, List, [], ◌∷◌, ◌++◌, length, drop, take, Some, None, Result, Ok, Err, refl, sym, ap, ◌∙◌, subst, arith, length-append}
 use Rattle.std.specs.Prelude.{if◌then◌else◌}
 use Rattle.std.specs.Result.{is_ok}
 use Rattle.std.proofs.lemmas.List.{drop-take, take_all}
@@ -8,7 +8,7 @@ use Rattle.ds_lex.specs.declared.token.Mode.TheVariants.{Inner}
 use Rattle.ds_lex.specs.Lexemes.{Lexeme, part, lexed_text}
 use Rattle.ds_lex.proofs.Printed.{Lexes, lexes_gap}
 use Rattle.expr_read.specs.declared.tree.Expr.{Expr}
-use Rattle.expr_read.specs.Reading.{expr_of, or_at, unary_at}
+use Rattle.expr_read.specs.Reading.{expr_of, unary_at}
 use Rattle.expr_read.specs.Grammar.{or_form, unary_form, IsSpelled}
 use Rattle.expr_read.proofs.Grammars.{or_reads, unary_form_reads}
 use Rattle.expr_read.proofs.Wholes.{read_is_spelled, spelled_is_read}
@@ -22,7 +22,6 @@ use Rattle.osh_sound.proofs.ExprsShifted.{shifted_spells}
 last_end : (t : Lexeme) (ts : List Lexeme) → place_behind (last_of t ts) ≡ end_of (t.at + length t.bytes) ts
 last_end t [] = refl
 last_end t (u ∷ ts) = last_end u ts
-
 
 dropped_take : (a b : ℕ) (xs : List ℕ) → a ≤ b → drop a (take b xs) ≡ take (b - a) (drop a xs)
 dropped_take a b xs h = let e : b ≡ a + (b - a) = omega arith in ap (λ n. drop a (take n xs)) e ∙ drop-take a (b - a) xs

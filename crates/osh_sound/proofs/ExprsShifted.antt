@@ -1,9 +1,7 @@
 -- Tokens that spell an expression spell one at other places too.
-use Rattle.std.proofs.Common.{◌≡◌, ◌≤◌, ◌+◌, inl, inr, ℕ, zero, suc, List, [], ◌∷◌, length, Bool, true, false, Option, Some, None, refl, sym, ap, ◌∙◌, subst, arith}
+use Rattle.std.proofs.Common.{◌≡◌, inl, inr, ℕ, zero, suc, List, [], ◌∷◌, length, Bool, true, false, Some, refl, sym, ap, ◌∙◌, subst, arith}
 use Rattle.ds_lex.specs.Lexemes.{Lexeme}
-use Rattle.expr_read.specs.declared.tree.Infix.TheVariants as sign
 use Rattle.expr_read.specs.declared.tree.Infix.{Infix}
-use Rattle.expr_read.specs.declared.tree.Prefix.{Prefix}
 use Rattle.expr_read.specs.declared.tree.Link.{Link}
 use Rattle.expr_read.specs.declared.tree.Expr.{Expr}
 use Rattle.expr_read.specs.declared.tree.Expr.TheVariants as made
@@ -13,7 +11,7 @@ use Rattle.expr_read.specs.declared.what.Level.{Level}
 use Rattle.expr_read.specs.declared.what.Level.TheVariants as level
 use Rattle.expr_read.specs.Marks.{what_of, what_by, prefix_of, joins}
 use Rattle.expr_read.specs.Reading.{link_by, link_if, chained, content}
-use Rattle.expr_read.specs.Grammar.{Form, mark, link_phrase, links_phrase, MayStand, chain_form, or_form, number_form, quoted_form, column_form, further_args, args_phrase, call_form, bracket_form, signed_form, no_form, unary_by, unary_form}
+use Rattle.expr_read.specs.Grammar.{Form, mark, links_phrase, MayStand, chain_form, or_form, number_form, quoted_form, column_form, further_args, args_phrase, call_form, bracket_form, signed_form, no_form, unary_by, unary_form}
 use Rattle.osh_sound.proofs.KeptTokens.{Shifts, Shifted}
 
 same_what : (d e : ℕ) (t u : Lexeme) → Shifts d e t u → what_of t ≡ what_of u
@@ -69,11 +67,13 @@ may_stand level.Compare links others e h = omega arith
 may_stand l links others e h = tt
 
 chain_moves : (d e : ℕ) (l : Level) (F : Form) → Moves d e F → Moves d e (chain_form l F)
-chain_moves d e l F m = record { moves = λ x ts rest us h s. (
-    let all = h.4 in
-    let first = m.moves h.0 ts all.0 us all.1 s in
-    let links = links_move d e l F m h.1 all.0 rest first.left all.2 first.same in
-    record { expr = chained first.expr links.others; left = links.left; same = links.same; spelled = (first.expr, links.others, refl, may_stand l h.1 links.others links.many h.3, (first.left, first.spelled, links.spelled)) }) }
+chain_moves d e l F m = record {
+  moves = λ x ts rest us h s. (
+      let all = h.4 in
+      let first = m.moves h.0 ts all.0 us all.1 s in
+      let links = links_move d e l F m h.1 all.0 rest first.left all.2 first.same in
+      record { expr = chained first.expr links.others; left = links.left; same = links.same; spelled = (first.expr, links.others, refl, may_stand l h.1 links.others links.many h.3, (first.left, first.spelled, links.spelled)) });
+}
 
 or_moves : (d e : ℕ) (F : Form) → Moves d e F → Moves d e (or_form F)
 or_moves d e F m = chain_moves d e level.Or _ (chain_moves d e level.And _ (chain_moves d e level.Compare _ (chain_moves d e level.Sum _ (chain_moves d e level.Product F m))))
@@ -183,5 +183,6 @@ shifted_spells d e n x ts us h s = by ((or_moves d e (unary_form n) (unary_moves
     ended : (y : Expr) (left : List Lexeme) → Shifted d e [] left → or_form (unary_form n) y us left → or_form (unary_form n) y us []
     ended y [] s k = k
     ended y (u ∷ left) s k = absurd s
+
     by : Spells d e (or_form (unary_form n)) us [] → (y : Expr) × or_form (unary_form n) y us []
     by r = (r.expr, ended r.expr r.left r.same r.spelled)

@@ -1,7 +1,5 @@
 -- The bytes from the first token of a text to the end of its last are lexed as the same tokens, at other places.
-use Rattle.std.proofs.Common.{◌≡◌, ◌≤◌, ◌<◌, ◌+◌, ◌-◌, inl, inr, ℕ, List, [], ◌∷◌, ◌++◌, length, drop, take, map, Option, Some, None, refl, sym, ap, ◌∙◌, subst, append_assoc, arith, length-append}
-use Rattle.std.specs.Prelude.{codes}
-use Rattle.std.proofs.lemmas.List.{append-nil}
+use Rattle.std.proofs.Common.{◌≡◌, ◌<◌, ◌+◌, ◌-◌, inl, inr, ℕ, List, [], ◌∷◌, ◌++◌, length, drop, map, Option, Some, None, refl, sym, ap, ◌∙◌, subst, append_assoc, arith, length-append}
 use Rattle.std.proofs.Math.Seq.{drop-append_seam, take-append_seam}
 use Rattle.ds_lex.specs.declared.token.Mode.{Mode}
 use Rattle.ds_lex.specs.declared.token.Mode.TheVariants.{Osh, Inner}
@@ -10,10 +8,10 @@ use Rattle.ds_lex.specs.declared.token.Sort.TheVariants as sort
 use Rattle.ds_lex.specs.declared.token.Token.{Token}
 use Rattle.ds_lex.specs.declared.token.Piece.{Piece}
 use Rattle.ds_lex.specs.declared.token.Piece.TheVariants.{Gap, Part}
-use Rattle.ds_lex.specs.Pieces.{piece_at, size_of}
+use Rattle.ds_lex.specs.Pieces.{piece_at}
 use Rattle.ds_lex.specs.Lexed.{Lexed, lexed_from, lexed}
 use Rattle.ds_lex.specs.Lexemes.{Lexeme, lexeme_of, part, lexed_text}
-use Rattle.ds_lex.specs.Tokens.{IsSeparator, IsToken, IsPiece, Stands, IsCut, tokens_from, place_behind, EndsAt}
+use Rattle.ds_lex.specs.Tokens.{IsSeparator, IsToken, Stands, IsCut, tokens_from, place_behind, EndsAt}
 use Rattle.ds_lex.proofs.Lexing.{gap_step}
 use Rattle.ds_lex.proofs.LexedLaws.{found_stands, lexed_is}
 use Rattle.ds_lex.proofs.Printed.{Lexes, lexes_end, lexes_token}

@@ -13,7 +13,6 @@ use Rattle.ds_schema.specs.declared.schema.Field.{Field}
 use Rattle.ds_schema.specs.declared.schema_text.fault.SchemaWhy.{SchemaWhy}
 use Rattle.ds_schema.specs.declared.schema_text.fault.SchemaWhy.TheVariants as schema_why
 use Rattle.ds_schema.specs.Schemas.{IsField}
-use Rattle.ds_schema.specs.SchemaText.{kind_text, nullable_text}
 use Rattle.ds_schema.specs.SchemaReading.{field_at}
 use Rattle.ds_schema.specs.SchemaGrammar.{field_phrase}
 use Rattle.ds_schema.proofs.ListReaders.{ok_parts}
