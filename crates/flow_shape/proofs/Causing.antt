@@ -11,7 +11,8 @@ use Rattle.op_shape.specs.declared.fault.ShapeWhy.{ShapeWhy}
 use Rattle.op_shape.specs.Causes.{first_cause}
 use Rattle.op_shape.specs.Options.{IsKnown, first_fields, option_causes, output_causes, operator_parts}
 use Rattle.flow_shape.specs.Refusals.{HasOnlyKnown, chart_of, inputs_at, input_cause, operator_cause}
-use Rattle.flow_shape.proofs.Firsts.{or_else, first_both}
+use Rattle.op_shape.proofs.Firsts.{or_else, first_both}
+use Rattle.op_shape.proofs.Same.{own_same}
 
 pub all_at : {X : Type 0} (P : X → Type 0) (xs : List X) (i : ℕ) (d : X) → AllByRecursion P xs → i < length xs → P (get_or xs i d)
 all_at P [] i d a h = absurd (omega arith)
@@ -20,15 +21,6 @@ all_at P (x ∷ xs) (suc i) d a h = all_at P xs i d a.1 (omega arith)
 
 pub known_at : (flow : Flow) (o : ℕ) → HasOnlyKnown flow → o < length flow.ops → IsKnown (get_or flow.ops o no_op).kind
 known_at flow o a h = all_at (λ (s : OpSpec). IsKnown s.kind) flow.ops o no_op a h
-
--- a known operator sees its first input alone
-pub own_same : (k : OpKind) (ins : List (List Field)) → IsKnown k → first_cause (option_causes k ins ++ output_causes k ins) ≡ first_cause (option_causes k (first_fields ins ∷ []) ++ output_causes k (first_fields ins ∷ []))
-own_same (kind.Import file schema delim fixed reject) ins h = refl
-own_same (kind.Export file delim fixed) ins h = refl
-own_same kind.Copy ins h = refl
-own_same (kind.Tsort key) ins h = refl
-own_same (kind.Remdup key last) ins h = refl
-own_same k ins h = absurd h
 
 pub cause_parts : (flow : Flow) (schemas : List (List Field)) (o : ℕ) (inputs own : Option ShapeWhy) (first : List Field) → IsKnown (get_or flow.ops o no_op).kind
     → inputs ≡ first_cause (map (input_cause (chart_of flow schemas) o) (links_into (chart_of flow schemas) o))
@@ -41,11 +33,3 @@ cause_parts flow schemas o inputs own first known e f g =
     let mine = g ∙ (ap (λ x. first_cause (option_causes k (x ∷ []) ++ output_causes k (x ∷ []))) f ∙ sym (own_same k ins known)) in
     ap (λ x. or_else x own) e ∙ (ap (or_else (first_cause (map (input_cause (chart_of flow schemas) o) (links_into (chart_of flow schemas) o)))) mine
     ∙ sym (first_both (map (input_cause (chart_of flow schemas) o) (links_into (chart_of flow schemas) o)) (option_causes k ins ++ output_causes k ins)))
-
-pub parts_same : (k : OpKind) (ins : List (List Field)) → IsKnown k → operator_parts k (first_fields ins ∷ []) ≡ operator_parts k ins
-parts_same (kind.Import file schema delim fixed reject) ins h = refl
-parts_same (kind.Export file delim fixed) ins h = refl
-parts_same kind.Copy ins h = refl
-parts_same (kind.Tsort key) ins h = refl
-parts_same (kind.Remdup key last) ins h = refl
-parts_same k ins h = absurd h

@@ -1,5 +1,5 @@
 -- Answers, computed: names that clash, columns and methods, and flows with their first faults.
-use Rattle.std.proofs.Common.{◌≡◌, ◌≢◌, ◌<◌, ◌==◌, ◌⊎◌, inl, inr, ℕ, zero, suc, Bool, true, false, List, [], ◌∷◌, Option, Some, None, refl, codes, arith, length}
+use Rattle.std.proofs.Common.{◌≡◌, ◌≢◌, ◌<◌, ◌==◌, ◌⊎◌, inl, inr, ℕ, zero, suc, Bool, true, false, List, [], ◌∷◌, Option, Some, None, refl, codes, arith, length, pos}
 use Rattle.std.specs.List.{AllByRecursion}
 use Rattle.ds_value.specs.declared.kind.Kind.{Kind}
 use Rattle.ds_value.specs.declared.kind.Kind.TheVariants as data_kind
@@ -109,6 +109,46 @@ sorted_fields : given_on (chart_of (sorting (codes "id")) (people ∷ [] ∷ [])
 unfolding sorting people field op link
 sorted_fields = refl
 
+-- import | modify | export
+modifying : List (List ℕ) → List (List ℕ) → List (List ℕ × List ℕ) → Flow
+modifying keep drop rename = record {
+  nopart = false;
+  nosort = false;
+  ops = op (kind.Import (codes "in") people 44 None false) ∷ op (kind.Modify keep drop rename) ∷ op (kind.Export (codes "out") 44 None) ∷ [];
+  links = link 0 1 ∷ link 1 2 ∷ [];
+}
+
+-- kept in the written order, then renamed
+modified_names : given_on (chart_of (modifying (codes "name" ∷ codes "id" ∷ []) [] ((codes "key", codes "id") ∷ [])) (people ∷ [] ∷ [])) 1 ≡ field (codes "name") (data_kind.Text 10 false) ∷ field (codes "key") (data_kind.Int 32) ∷ []
+unfolding modifying people field op link
+modified_names = refl
+
+modified_well : operator_cause (chart_of (modifying (codes "name" ∷ codes "id" ∷ []) [] ((codes "key", codes "id") ∷ [])) (people ∷ people ∷ [])) 1 ≡ None
+unfolding modifying people field op link
+modified_well = refl
+
+unknown_kept : operator_cause (chart_of (modifying (codes "zip" ∷ []) [] []) (people ∷ people ∷ [])) 1 ≡ Some why.Field
+unfolding modifying people field op link
+unknown_kept = refl
+
+-- a column that isn't kept can't be renamed
+renamed_unkept : operator_cause (chart_of (modifying [] (codes "id" ∷ []) ((codes "key", codes "id") ∷ [])) (people ∷ people ∷ [])) 1 ≡ Some why.Field
+unfolding modifying people field op link
+renamed_unkept = refl
+
+renamed_alike : operator_cause (chart_of (modifying [] [] ((codes "name", codes "id") ∷ [])) (people ∷ people ∷ [])) 1 ≡ Some why.Double
+unfolding modifying people field op link
+renamed_alike = refl
+
+-- all pairs at once, so names can be exchanged
+exchanged : operator_cause (chart_of (modifying [] [] ((codes "name", codes "id") ∷ ((codes "id", codes "name") ∷ []))) (people ∷ people ∷ [])) 1 ≡ None
+unfolding modifying people field op link
+exchanged = refl
+
+all_dropped : operator_cause (chart_of (modifying [] (codes "id" ∷ codes "name" ∷ []) []) (people ∷ people ∷ [])) 1 ≡ Some why.Wide
+unfolding modifying people field op link
+all_dropped = refl
+
 -- widths for one of two columns
 one_width : operator_cause (chart_of (record { nopart = false; nosort = false; ops = op (kind.Import (codes "in") people 44 (Some (5 ∷ [])) false) ∷ []; links = [] }) []) 0 ≡ Some why.Schemas
 unfolding people field op
@@ -118,6 +158,16 @@ one_width = refl
 rejecting : ports_fit (kind.Import (codes "in") people 44 None true) 0 1 ≡ false
 unfolding people field
 rejecting = refl
+
+filter_rejecting : ports_fit (kind.Filter (codes "id > 1") true) 1 1 ≡ false
+filter_rejecting = refl
+
+-- a switch has an output for each case, and one more where it rejects
+two_cases : ports_fit (kind.Switch (codes "id") (pos 1 ∷ pos 2 ∷ []) false) 1 2 ≡ true
+two_cases = refl
+
+two_cases_rejecting : ports_fit (kind.Switch (codes "id") (pos 1 ∷ pos 2 ∷ []) true) 1 2 ≡ false
+two_cases_rejecting = refl
 
 many_copies : ports_fit kind.Copy 1 17 ≡ false
 many_copies = refl

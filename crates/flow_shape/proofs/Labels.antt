@@ -1,5 +1,5 @@
 -- Links get their fields one by one.
-use Rattle.std.proofs.Common.{◌≡◌, ◌<◌, ◌+◌, ◌==◌, [], ℕ, List, Bool, true, false, cond, refl, sym, subst, ◌∙◌, arith, length, get_or, set, length-set}
+use Rattle.std.proofs.Common.{◌≡◌, ◌<◌, ◌+◌, ◌==◌, [], ℕ, List, Bool, true, false, None, cond, refl, sym, subst, ◌∙◌, arith, length, get_or, set, length-set}
 use Rattle.std.proofs.lemmas.Bool.{eqb-true, eq-eqb, eqb-false}
 use Rattle.std.proofs.lemmas.List.{get_or-set_other, get_or-set_same}
 use Rattle.ds_schema.specs.declared.schema.Field.{Field}
@@ -7,9 +7,9 @@ use Rattle.flow_graph.specs.Charts.{no_link}
 use Rattle.flow_graph.specs.declared.flow.Flow.{Flow}
 use Rattle.flow_shape.specs.Giving.{HasGiven}
 use Rattle.flow_shape.specs.Links.{feeds}
-use Rattle.flow_shape.specs.Refusals.{chart_of, given_on}
+use Rattle.flow_shape.specs.Refusals.{chart_of, given_on, operator_cause}
 use Rattle.flow_shape.proofs.Marks.{feeds_at}
-use Rattle.flow_shape.proofs.Same.{AgreeInto, same_given}
+use Rattle.flow_shape.proofs.Same.{AgreeInto, same_cause, same_given}
 
 -- a link feeds its consumer
 pub link_feeds : (flow : Flow) (l a b : ℕ) → l < length flow.links → (get_or flow.links l no_link).from ≡ a → (get_or flow.links l no_link).to ≡ b → feeds flow.links a b ≡ true
@@ -21,6 +21,10 @@ begin_given flow old o = record { len = refl; given = λ l h e. absurd (omega (a
 -- what was given so far doesn't change the operator's own inputs
 inputs_kept : (flow : Flow) (old cur : List (List Field)) (o k : ℕ) → feeds flow.links o o ≡ false → HasGiven flow old cur o k → AgreeInto flow cur old o
 inputs_kept flow old cur o k alone inv l h e = inv.kept l (λ f. cc (sym alone ∙ link_feeds flow l o o h f e))
+
+-- so it stays without a cause
+pub still_sound : (flow : Flow) (old cur : List (List Field)) (o k : ℕ) → feeds flow.links o o ≡ false → operator_cause (chart_of flow old) o ≡ None → HasGiven flow old cur o k → operator_cause (chart_of flow cur) o ≡ None
+still_sound flow old cur o k alone none inv = same_cause flow cur old o (inputs_kept flow old cur o k alone inv) ∙ none
 
 given_one : (flow : Flow) (old cur : List (List Field)) (o k : ℕ) → (get_or flow.links k no_link).from ≡ o → feeds flow.links o o ≡ false → HasGiven flow old cur o k → given_on (chart_of flow cur) k ≡ given_on (chart_of flow old) k
 given_one flow old cur o k e alone inv = same_given flow cur old k (subst (AgreeInto flow cur old) (sym e) (inputs_kept flow old cur o k alone inv))

@@ -2,11 +2,11 @@ pub mod Causing
 pub mod Entries
 mod Examples
 pub mod Firsts
+pub mod Fitted
 pub mod Fitting
 pub mod Found
 pub mod Given
 pub mod Holding
-pub mod Keys
 pub mod Labels
 pub mod Listing
 pub mod Marks
@@ -14,7 +14,6 @@ pub mod Numbers
 pub mod One
 pub mod Ordering
 pub mod Orders
-pub mod Places
 pub mod Same
 pub mod Sound
 pub mod Steps

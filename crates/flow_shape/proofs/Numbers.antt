@@ -1,8 +1,11 @@
 -- The numbers of the links that pass a test.
-use Rattle.std.proofs.Common.{◌≡◌, ◌+◌, ◌++◌, ◌∷◌, [], ℕ, List, Bool, cond, refl, sym, ap, subst, ◌∙◌, length, get_or, append_assoc, length-append}
+use Rattle.std.proofs.Common.{◌≡◌, ◌+◌, ◌++◌, ◌∷◌, ◌==◌, [], ℕ, List, Bool, true, false, cond, count_by, arith, refl, sym, ap, subst, ◌∙◌, length, get_or, append_assoc, length-append}
 use Rattle.std.specs.List.{filter, range_with_len}
+use Rattle.std.proofs.lemmas.List.Sums.{sum_by-cons}
+use Rattle.flow_graph.specs.declared.flow.Flow.{Flow}
 use Rattle.flow_graph.specs.declared.flow.LinkSpec.{LinkSpec}
 use Rattle.flow_graph.specs.Charts.{no_link}
+use Rattle.flow_shape.specs.Ports.{count_in}
 
 -- counted from a number on
 abbrev pub numbers : (LinkSpec → Bool) → ℕ → List LinkSpec → List ℕ
@@ -30,3 +33,15 @@ from_on p all pre (l ∷ links) e =
 
 pub numbers_of : (p : LinkSpec → Bool) (links : List LinkSpec) → filter (λ l. p (get_or links l no_link)) (range_with_len 0 (length links)) ≡ numbers p 0 links
 numbers_of p links = from_on p links [] links refl
+
+-- how many they are
+length_by : (x : Bool) (a c : ℕ) (ns : List ℕ) → length ns ≡ c → length (cond x (a ∷ ns) ns) ≡ cond x 1 0 + c
+length_by true a c ns e = omega (arith, e)
+length_by false a c ns e = omega (arith, e)
+
+pub numbers_count : (p : LinkSpec → Bool) (a : ℕ) (links : List LinkSpec) → length (numbers p a links) ≡ count_by p links
+numbers_count p a [] = refl
+numbers_count p a (l ∷ links) = length_by (p l) a (count_by p links) (numbers p (a + 1) links) (numbers_count p (a + 1) links) ∙ sym (sum_by-cons (λ x. cond (p x) 1 0) l links)
+
+pub into_count : (flow : Flow) (o : ℕ) → length (filter (λ l. (get_or flow.links l no_link).to == o) (range_with_len 0 (length flow.links))) ≡ count_in flow.links o
+into_count flow o = ap length (numbers_of (λ (l : LinkSpec). l.to == o) flow.links) ∙ numbers_count (λ (l : LinkSpec). l.to == o) 0 flow.links

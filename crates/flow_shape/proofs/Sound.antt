@@ -12,12 +12,8 @@ use Rattle.op_shape.specs.Causes.{first_cause, cause_if}
 use Rattle.flow_shape.specs.Methods.{may_stand, all_named, kinds_suit, method_cause}
 use Rattle.op_shape.specs.Options.{first_fields, option_causes, output_causes, IsKnown}
 use Rattle.flow_shape.specs.Refusals.{chart_of, inputs_at, input_cause, operator_cause}
-use Rattle.flow_shape.proofs.Causing.{own_same}
-
-pub none_both : (xs ys : List (Option ShapeWhy)) → first_cause (xs ++ ys) ≡ None → (first_cause xs ≡ None) × (first_cause ys ≡ None)
-none_both [] ys e = (refl, e)
-none_both (None ∷ xs) ys e = none_both xs ys e
-none_both (Some w ∷ xs) ys e = cc
+use Rattle.op_shape.proofs.Firsts.{none_both}
+use Rattle.op_shape.proofs.Same.{own_same}
 
 alone : (c : Option ShapeWhy) → first_cause (c ∷ []) ≡ None → c ≡ None
 alone None h = refl

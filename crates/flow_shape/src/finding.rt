@@ -1,27 +1,32 @@
-ghost use Rattle.std.specs.Prelude.{◌≡◌, ◌<◌, ◌≤◌, ◌^◌, ℕ, [], map, length, get_or, find, option_copied, IfOk};
+ghost use Rattle.std.specs.Prelude.{◌≡◌, ◌<◌, ◌^◌, ℕ, [], map, length, get_or, find, option_copied, IfOk};
 ghost use Rattle.std.specs.Str.{bytes_eq};
+ghost use Rattle.ds_schema.specs.Schemas.{IsSchema};
 ghost use Rattle.flow_graph.specs.Charts.{all_links, no_link};
 ghost use Rattle.flow_shape.specs.Links.{AreWithin};
+ghost use Rattle.flow_shape.specs.Lowest.{HasNone};
+ghost use Rattle.flow_shape.specs.Ports.{WrongPorts};
 ghost use Rattle.flow_shape.specs.Refusals.{HasOnlyKnown, chart_of, Fits, all_ops, parts_at, written_at, stored_for, stored_at};
 ghost use Rattle.flow_shape.specs.Spelled.{HasDistinctKeys, HasDistinctMethods};
 
-use crate::inputs::first_fields;
+use crate::inputs::first_schema;
 use crate::methods::written_route;
-use crate::options::operator_parts;
 use crate::reading::{fields_at, link_at, op_at};
 use ds_schema::Schema;
 use ds_value::{Copied, Name, NoMemory};
 use flow_graph::{Flow, OpKind, OpParts, Route, Stored};
+use op_shape::operator_parts;
 use std::alloc::Global;
 
 fn parts_at(alloc: Global, flow: &Flow, schemas: &[Schema], op: u32) -> Result<OpParts, NoMemory>
     requires op { op < length flow.now.ops }
     requires known { HasOnlyKnown flow.now }
+    requires ports { HasNone (length flow.now.ops) (WrongPorts flow.now) }
+    requires each_link { length schemas.now ≡ length flow.now.links }
     requires differ { HasDistinctKeys flow.now }
     requires fit { Fits (chart_of flow.now schemas.now) op }
     ensures { IfOk result (λ parts. parts ≡ parts_at (chart_of flow.now schemas.now) op) }
 {
-    let first = first_fields(flow, schemas, op);
+    let first = first_schema(flow, schemas, op);
     operator_parts(alloc, &op_at(flow, op).kind, first)
 }
 
@@ -29,6 +34,8 @@ fn parts_at(alloc: Global, flow: &Flow, schemas: &[Schema], op: u32) -> Result<O
 pub fn all_parts(alloc: Global, flow: &Flow, schemas: &[Schema]) -> Result<Vec<OpParts>, NoMemory>
     requires few { length flow.now.ops < 2 ^ 32 }
     requires known { HasOnlyKnown flow.now }
+    requires ports { HasNone (length flow.now.ops) (WrongPorts flow.now) }
+    requires each_link { length schemas.now ≡ length flow.now.links }
     requires differ { HasDistinctKeys flow.now }
     requires fit { (o : ℕ) → o < length flow.now.ops → Fits (chart_of flow.now schemas.now) o }
     ensures { IfOk result (λ parts. parts.items ≡ map (parts_at (chart_of flow.now schemas.now)) (all_ops (chart_of flow.now schemas.now))) }
@@ -47,10 +54,11 @@ fn route_at(
     link: usize,
 ) -> Result<Option<Route>, NoMemory>
     requires link { link < length flow.now.links }
+    requires each_link { length schemas.now ≡ length flow.now.links }
     requires differ { HasDistinctMethods flow.now }
     requires fit { Fits (chart_of flow.now schemas.now) (get_or flow.now.links link no_link).to }
     ensures route { IfOk result (λ route. route ≡ written_at (chart_of flow.now schemas.now) link) }
-    ensures few { length (get_or schemas.now link []) ≤ 256 }
+    ensures schema { IsSchema (get_or schemas.now link []) }
 {
     let method = &link_at(flow, link).method;
     written_route(alloc, fields_at(schemas, link), method)
@@ -63,10 +71,11 @@ pub fn all_routes(
     schemas: &[Schema],
 ) -> Result<Vec<Option<Route>>, NoMemory>
     requires within { AreWithin (length flow.now.ops) flow.now.links }
+    requires each_link { length schemas.now ≡ length flow.now.links }
     requires differ { HasDistinctMethods flow.now }
     requires fit { (o : ℕ) → o < length flow.now.ops → Fits (chart_of flow.now schemas.now) o }
     ensures routes { IfOk result (λ routes. routes.items ≡ map (written_at (chart_of flow.now schemas.now)) (all_links (chart_of flow.now schemas.now))) }
-    ensures few { IfOk result (λ _. (l : ℕ) → l < length flow.now.links → length (get_or schemas.now l []) ≤ 256) }
+    ensures schemas { IfOk result (λ _. (l : ℕ) → l < length flow.now.links → IsSchema (get_or schemas.now l [])) }
 {
     let mut routes = Vec::new(alloc);
     for link in 0..flow.links.as_slice().len() {

@@ -1,12 +1,13 @@
-ghost use Rattle.std.specs.Prelude.{◌≡◌, ◌<◌, ◌==◌, ℕ, cond, set, length, vec_len, get_or, false, OnOk};
+ghost use Rattle.std.specs.Prelude.{◌≡◌, ◌<◌, ◌==◌, ℕ, cond, set, length, vec_len, get_or, false, None, OnOk};
 ghost use Rattle.flow_graph.specs.Charts.{no_link};
 ghost use Rattle.flow_shape.specs.Lowest.{HasNone};
 ghost use Rattle.flow_shape.specs.Giving.{HasGiven};
 ghost use Rattle.flow_shape.specs.Links.{AreWithin, feeds};
 ghost use Rattle.flow_shape.specs.Ports.{WrongPorts};
-ghost use Rattle.flow_shape.specs.Refusals.{HasOnlyKnown, chart_of, given_on};
+ghost use Rattle.flow_shape.specs.Refusals.{HasOnlyKnown, chart_of, given_on, operator_cause};
+ghost use Rattle.flow_shape.specs.Spelled.{HasSoundOptions};
 
-use crate::outputs::output_schema;
+use crate::outputs::given_schema;
 use crate::reading::link_at;
 use ds_schema::Schema;
 use ds_value::NoMemory;
@@ -24,12 +25,14 @@ fn give_one(
     requires known { HasOnlyKnown flow.now }
     requires ports { HasNone (length flow.now.ops) (WrongPorts flow.now) }
     requires within { AreWithin (length flow.now.ops) flow.now.links }
+    requires options { HasSoundOptions flow.now }
     requires each_link { vec_len schemas.old ≡ length flow.now.links }
     requires link { link < length flow.now.links }
+    requires sound { operator_cause (chart_of flow.now schemas.old.items) op ≡ None }
     ensures { OnOk result (schemas.new.items ≡ cond ((get_or flow.now.links link no_link).from == op) (set schemas.old.items link (given_on (chart_of flow.now schemas.old.items) link)) schemas.old.items) }
 {
     if link_at(flow, link).from == op {
-        let schema = output_schema(alloc, flow, schemas.as_slice(), link)?;
+        let schema = given_schema(alloc, flow, schemas.as_slice(), link)?;
         schemas[link] = schema;
     }
     Ok(())
@@ -40,7 +43,9 @@ pub fn give(alloc: Global, flow: &Flow, schemas: &mut Vec<Schema>, op: u32) -> R
     requires known { HasOnlyKnown flow.now }
     requires ports { HasNone (length flow.now.ops) (WrongPorts flow.now) }
     requires within { AreWithin (length flow.now.ops) flow.now.links }
+    requires options { HasSoundOptions flow.now }
     requires each_link { vec_len schemas.old ≡ length flow.now.links }
+    requires sound { operator_cause (chart_of flow.now schemas.old.items) op ≡ None }
     requires alone { feeds flow.now.links op op ≡ false }
     ensures { OnOk result (HasGiven flow.now schemas.old.items schemas.new.items op (length flow.now.links)) }
 {

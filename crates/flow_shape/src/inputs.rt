@@ -1,14 +1,13 @@
-ghost use Rattle.std.specs.Prelude.{◌≡◌, ◌<◌, ◌≤◌, ◌==◌, ◌^◌, [], cond, map, length, get_or, position, None, Some, IfSome};
+ghost use Rattle.std.specs.Prelude.{◌≡◌, ◌<◌, ◌==◌, [], cond, map, length, get_or, position, slice_get, option_copied, None, Some, IfSome};
 ghost use Rattle.flow_graph.specs.Charts.{no_op, no_link, is_seq, links_into};
 ghost use Rattle.op_shape.specs.Causes.{first_cause};
-ghost use Rattle.op_shape.specs.Options.{first_fields};
 ghost use Rattle.flow_shape.specs.Refusals.{chart_of, inputs_at, input_cause};
 
-use crate::ShapeWhy;
 use crate::methods::method_cause;
 use crate::reading::{fields_at, link_at, op_at};
-use ds_schema::{Field, Schema};
+use ds_schema::Schema;
 use flow_graph::{Flow, LinkSpec, Mark};
+use op_shape::ShapeWhy;
 
 /// The first link into an operator.
 pub fn first_into(links: &[LinkSpec], op: u32) -> Option<usize>
@@ -18,14 +17,14 @@ pub fn first_into(links: &[LinkSpec], op: u32) -> Option<usize>
     links.iter().position(|link| link.to == op)
 }
 
-/// The fields of input 0; none where there is no input.
-pub fn first_fields<'a>(flow: &Flow, schemas: &'a [Schema], op: u32) -> &'a [Field]
-    ensures fields { result.now ≡ first_fields (inputs_at (chart_of flow.now schemas.now) op) }
-    ensures few { length result.now ≤ 256 }
+/// The schema of input 0; none where there is no input.
+pub fn first_schema<'a>(flow: &Flow, schemas: &'a [Schema], op: u32) -> Option<&'a Schema>
+    requires { length schemas.now ≡ length flow.now.links }
+    ensures { option_copied result ≡ slice_get (inputs_at (chart_of flow.now schemas.now) op) 0 }
 {
     match first_into(flow.links.as_slice(), op) {
-        Some(link) => fields_at(schemas, link),
-        None => &[],
+        Some(link) => Some(&schemas[link]),
+        None => None,
     }
 }
 

@@ -10,19 +10,17 @@ mod finding;
 mod giving;
 mod inputs;
 mod methods;
-mod naming;
 mod operator;
-mod options;
 mod outputs;
 mod ports;
 mod reading;
 mod sequence;
 mod shaping;
 mod typing;
-mod widths;
 
 pub use answers::one_answer;
-pub use fault::{ShapeFault, ShapeWhy};
+pub use fault::ShapeFault;
+pub use op_shape::ShapeWhy;
 pub use sequence::{one_order, ordered_is_free};
 pub use shaping::shape;
 

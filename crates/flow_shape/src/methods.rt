@@ -2,11 +2,11 @@ ghost use Rattle.std.specs.Prelude.{◌≡◌, ◌<◌, ◌^◌, not, ◌||◌, 
 ghost use Rattle.flow_shape.specs.Methods.{may_stand, all_named, is_whole, is_whole_column, kinds_suit, method_cause, written_route, MethodDiffers};
 ghost use Rattle.op_shape.specs.Naming.{is_named};
 
-use crate::ShapeWhy;
-use crate::naming::{column, columns, has_column, has_columns, has_keys, is_named, key_list};
 use ds_schema::Field;
 use ds_value::{Kind, Name, NoMemory};
 use flow_graph::{Method, Route};
+use op_shape::ShapeWhy;
+use op_shape::naming::{column, columns, has_column, has_columns, has_keys, is_named, key_list};
 use std::alloc::Global;
 
 fn may_stand(into_seq: bool, method: &Method) -> bool

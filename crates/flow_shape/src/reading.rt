@@ -1,4 +1,5 @@
 ghost use Rattle.std.specs.Prelude.{◌≡◌, ◌<◌, ◌≤◌, [], length, get_or};
+ghost use Rattle.ds_schema.specs.Schemas.{IsSchema};
 ghost use Rattle.flow_graph.specs.Charts.{no_link, no_op};
 
 use ds_schema::{Field, Schema};
@@ -22,6 +23,7 @@ pub fn link_at(flow: &Flow, link: usize) -> &LinkSpec
 pub fn fields_at(schemas: &[Schema], link: usize) -> &[Field]
     ensures fields { result.now ≡ get_or schemas.now link [] }
     ensures few { length result.now ≤ 256 }
+    ensures schema { link < length schemas.now → IsSchema result.now }
 {
     match schemas.get(link) {
         Some(schema) => schema.as_slice(),

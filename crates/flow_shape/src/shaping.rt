@@ -4,18 +4,19 @@ ghost use Rattle.flow_shape.specs.Files.{Clashes};
 ghost use Rattle.flow_shape.specs.Links.{AreWithin, IsOrder, OnCycle};
 ghost use Rattle.flow_shape.specs.Ports.{WrongPorts};
 ghost use Rattle.flow_shape.specs.Refusals.{HasOnlyKnown, chart_of, AllFit, IsShapeOf, IsFirst};
-ghost use Rattle.flow_shape.specs.Spelled.{IsJoined};
+ghost use Rattle.flow_shape.specs.Spelled.{HasSoundOptions, IsJoined};
 
+use crate::ShapeFault;
 use crate::cycle::lowest_on_cycle;
 use crate::files::lowest_clash;
 use crate::finding::{all_parts, all_routes, all_stored};
 use crate::ports::lowest_wrong_ports;
 use crate::sequence::order;
 use crate::typing::typed;
-use crate::{ShapeFault, ShapeWhy};
 use ds_schema::Schema;
 use ds_value::{Items, NoMemory};
 use flow_graph::{Flow, Shaped, Stored};
+use op_shape::ShapeWhy;
 use std::alloc::Global;
 
 /// The order of a flow without cycles and wrong numbers of ports.
@@ -50,6 +51,7 @@ fn unclashing(alloc: Global, flow: &Flow, order: &[u32]) -> Result<Vec<Schema>, 
     requires ports { HasNone (length flow.now.ops) (WrongPorts flow.now) }
     requires acyclic { HasNone (length flow.now.ops) (OnCycle flow.now.links) }
     requires within { AreWithin (length flow.now.ops) flow.now.links }
+    requires options { HasSoundOptions flow.now }
     requires order { IsOrder (length flow.now.ops) flow.now.links order.now }
     ensures fit { IfOk result (λ schemas. AllFit (chart_of flow.now schemas.items)) }
     ensures files { IfOk result (λ _. HasNone (length flow.now.ops) (Clashes flow.now.ops)) }

@@ -1,15 +1,17 @@
-ghost use Rattle.std.specs.Prelude.{◌≡◌, ◌∷◌, [], ◌≢◌, IfOk};
+ghost use Rattle.std.specs.Prelude.{◌≡◌, ◌∷◌, [], ◌≢◌, ℕ, List, IfOk};
+ghost use Rattle.std.specs.List.{AllByRecursion};
+ghost use Rattle.ds_schema.specs.Schemas.{IsField, IsFieldName};
 ghost use Rattle.flow_graph.specs.declared.flow.Flag.TheVariants as flag;
 ghost use Rattle.flow_graph.specs.declared.op_kind.OpKind.TheVariants as kind;
 ghost use Rattle.flow_shape.specs.Methods.{MethodDiffers};
-ghost use Rattle.op_shape.specs.Options.{IsKnown, KeysDistinct};
+ghost use Rattle.op_shape.specs.Options.{IsKnown, KeysDistinct, OptionsStand};
 ghost use Rattle.flow_shape.specs.Refusals.{HasOnlyKnown};
 ghost use Rattle.flow_shape.specs.Spelled.{IsJoined};
 
 use crate::{ShapeFault, ShapeWhy, shape};
-use ds_schema::read_schema;
-use ds_value::{Items, Name, NoMemory};
-use flow_graph::{Flag, Flow, LinkSpec, Mark, Method, OpKind, OpSpec};
+use ds_schema::{Field, read_schema};
+use ds_value::{Bytes, Copied, Items, Name, NoMemory};
+use flow_graph::{Flag, Flow, LinkSpec, Mark, Method, OpKind, OpSpec, SetSpec};
 use std::alloc::Global;
 use std::test::Fail;
 
@@ -39,9 +41,9 @@ fn flow_of(
     last: OpSpec,
     method: Method,
 ) -> Result<Flow, NoMemory>
-    requires first { IsKnown first.kind × KeysDistinct first.kind }
-    requires middle { IsKnown middle.kind × KeysDistinct middle.kind }
-    requires last { IsKnown last.kind × KeysDistinct last.kind }
+    requires first { IsKnown first.kind × KeysDistinct first.kind × OptionsStand first.kind }
+    requires middle { IsKnown middle.kind × KeysDistinct middle.kind × OptionsStand middle.kind }
+    requires last { IsKnown last.kind × KeysDistinct last.kind × OptionsStand last.kind }
     requires method { MethodDiffers method }
     ensures known { IfOk result HasOnlyKnown }
     ensures joined { IfOk result IsJoined }
@@ -126,19 +128,131 @@ fn first_fault(alloc: Global, flow: Flow) -> Result<Option<(ShapeWhy, u32)>, NoM
     }
 }
 
-/// An import, a copy behind a link that may be by modulus of a column, and an export.
+/// The operator in the middle of a flow; fields are written as records of one, and pairs as a
+/// field of the new name and the old name.
+#[derive(Clone, Copy)]
+enum Middle<'a> {
+    Copy,
+    Filter(&'a [u8]),
+    Transform((&'a [u8], &'a [u8]), Option<(&'a [u8], &'a [u8])>),
+    Modify(Option<&'a [u8]>, Option<&'a [u8]>, Option<(&'a [u8], &'a [u8])>),
+    Switch(&'a [u8]),
+}
+
+/// An import, an operator behind a link that may be by modulus of a column, and an export.
 #[derive(Clone, Copy)]
 struct Row<'a> {
     schema: &'a [u8],
     one_width: bool,
     reject: bool,
-    copy: Mark,
+    middle: Middle<'a>,
+    mark: Mark,
     column: Option<&'a [u8]>,
     sink: &'a [u8],
+    one_written: bool,
+}
+
+fn field(alloc: Global, written: &[u8]) -> Result<Field, Fail>
+    ensures { IfOk result IsField }
+{
+    let schema = read_schema(alloc, written)?;
+    Ok(schema.as_slice()[0].copied()?)
+}
+
+fn expression(alloc: Global, text: &[u8]) -> Result<Bytes, NoMemory> {
+    let mut bytes = Vec::new(alloc);
+    bytes.extend_from_slice(text)?;
+    Ok(Bytes::from_vec(bytes))
+}
+
+fn set(alloc: Global, written: (&[u8], &[u8])) -> Result<SetSpec, Fail>
+    ensures { IfOk result (λ s. IsField s.field) }
+{
+    Ok(SetSpec {
+        field: field(alloc, written.0)?,
+        expr: expression(alloc, written.1)?,
+    })
+}
+
+fn transform(
+    alloc: Global,
+    first: (&[u8], &[u8]),
+    second: Option<(&[u8], &[u8])>,
+) -> Result<OpKind, Fail>
+    ensures { IfOk result (λ k. IsKnown k × KeysDistinct k × OptionsStand k) }
+{
+    let mut sets = Items::new(alloc);
+    sets.push(set(alloc, first)?)?;
+    match second {
+        None => Ok(OpKind::Transform {
+            set: sets,
+            reject: false,
+        }),
+        Some(second) => {
+            sets.push(set(alloc, second)?)?;
+            Ok(OpKind::Transform {
+                set: sets,
+                reject: false,
+            })
+        }
+    }
+}
+
+fn at_most_one(alloc: Global, column: Option<&[u8]>) -> Result<Items<Name>, Fail> {
+    let mut names = Items::new(alloc);
+    if let Some(column) = column {
+        names.push(name(alloc, column)?)?;
+    }
+    Ok(names)
+}
+
+fn renames(alloc: Global, pair: Option<(&[u8], &[u8])>) -> Result<Items<(Name, Name)>, Fail>
+    ensures { IfOk result (λ pairs. AllByRecursion (λ (p : List ℕ × List ℕ). IsFieldName (p.0)) pairs) }
+{
+    let mut pairs = Items::new(alloc);
+    match pair {
+        None => Ok(pairs),
+        Some((written, old)) => {
+            let new = field(alloc, written)?;
+            pairs.push((new.name, name(alloc, old)?))?;
+            Ok(pairs)
+        }
+    }
+}
+
+fn switch(alloc: Global, on: &[u8]) -> Result<OpKind, Fail>
+    ensures { IfOk result (λ k. IsKnown k × KeysDistinct k × OptionsStand k) }
+{
+    let mut cases = Items::new(alloc);
+    cases.push(7)?;
+    Ok(OpKind::Switch {
+        on: expression(alloc, on)?,
+        cases,
+        reject: false,
+    })
+}
+
+fn kind_of(alloc: Global, middle: Middle<'_>) -> Result<OpKind, Fail>
+    ensures { IfOk result (λ k. IsKnown k × KeysDistinct k × OptionsStand k) }
+{
+    match middle {
+        Middle::Copy => Ok(OpKind::Copy),
+        Middle::Filter(test) => Ok(OpKind::Filter {
+            test: expression(alloc, test)?,
+            reject: false,
+        }),
+        Middle::Transform(first, second) => transform(alloc, first, second),
+        Middle::Modify(keep, drop, rename) => Ok(OpKind::Modify {
+            keep: at_most_one(alloc, keep)?,
+            drop: at_most_one(alloc, drop)?,
+            rename: renames(alloc, rename)?,
+        }),
+        Middle::Switch(on) => switch(alloc, on),
+    }
 }
 
 fn import(alloc: Global, row: &Row<'_>) -> Result<OpSpec, Fail>
-    ensures { IfOk result (λ s. IsKnown s.kind × KeysDistinct s.kind) }
+    ensures { IfOk result (λ s. IsKnown s.kind × KeysDistinct s.kind × OptionsStand s.kind) }
 {
     Ok(OpSpec {
         kind: OpKind::Import {
@@ -153,13 +267,13 @@ fn import(alloc: Global, row: &Row<'_>) -> Result<OpSpec, Fail>
 }
 
 fn export(alloc: Global, row: &Row<'_>) -> Result<OpSpec, Fail>
-    ensures { IfOk result (λ s. IsKnown s.kind × KeysDistinct s.kind) }
+    ensures { IfOk result (λ s. IsKnown s.kind × KeysDistinct s.kind × OptionsStand s.kind) }
 {
     Ok(OpSpec {
         kind: OpKind::Export {
             file: name(alloc, row.sink)?,
             delim: b',',
-            fixed: None,
+            fixed: one_width(alloc, row.one_written)?,
         },
         mark: Mark::Seq,
     })
@@ -167,20 +281,42 @@ fn export(alloc: Global, row: &Row<'_>) -> Result<OpSpec, Fail>
 
 fn answer(alloc: Global, row: &Row<'_>) -> Result<Option<(ShapeWhy, u32)>, Fail> {
     let first = import(alloc, row)?;
+    let middle = OpSpec {
+        kind: kind_of(alloc, row.middle)?,
+        mark: row.mark,
+    };
     let last = export(alloc, row)?;
     let method = method(alloc, row.column)?;
-    let flow = flow_of(alloc, first, copying(row.copy), last, method)?;
+    let flow = flow_of(alloc, first, middle, last, method)?;
     Ok(first_fault(alloc, flow)?)
 }
 
-fn plain<'a>(column: Option<&'a [u8]>, copy: Mark) -> Row<'a> {
+fn plain<'a>(column: Option<&'a [u8]>, mark: Mark) -> Row<'a> {
     Row {
         schema: PEOPLE,
         one_width: false,
         reject: false,
-        copy,
+        middle: Middle::Copy,
+        mark,
         column,
         sink: b"out.txt",
+        one_written: false,
+    }
+}
+
+fn by_rows<'a>(middle: Middle<'a>) -> Row<'a> {
+    Row {
+        middle,
+        ..plain(None, Mark::Par)
+    }
+}
+
+/// As many columns reach the export as it has widths.
+fn one_column<'a>(middle: Middle<'a>) -> Row<'a> {
+    Row {
+        middle,
+        one_written: true,
+        ..plain(None, Mark::Par)
     }
 }
 
@@ -222,5 +358,92 @@ fn each_cause(rt: HostRuntime) -> Result<(), Fail> {
     }
     let cycle = first_fault(alloc, round(alloc)?)?;
     assert_eq!(rt; cycle, Some((ShapeWhy::Cycle, 0)));
+    Ok(())
+}
+
+#[test]
+fn expressions(rt: HostRuntime) -> Result<(), Fail> {
+    let alloc = rt.alloc();
+    let wrong = Some((ShapeWhy::Expression, 1));
+    let next: (&[u8], &[u8]) = (b"record ( next: int32; )", b"id + 1");
+    let rows: [(Middle<'_>, Option<(ShapeWhy, u32)>); 14] = [
+        (Middle::Filter(b"id > 3 && name != \"\""), None),
+        (Middle::Filter(b"zip > 3"), wrong),
+        (Middle::Filter(b"id + 3"), wrong),
+        (Middle::Switch(b"id % 5"), None),
+        (Middle::Switch(b"id * 0.5"), wrong),
+        (Middle::Switch(b"name"), wrong),
+        (Middle::Transform(next, None), None),
+        (
+            Middle::Transform(
+                next,
+                Some((b"record ( id: date; )", b"date(\"2024-01-31\")")),
+            ),
+            None,
+        ),
+        (
+            Middle::Transform((b"record ( next: int8; )", b"name"), None),
+            wrong,
+        ),
+        (
+            Middle::Transform((b"record ( next: int8; )", b"id > 1"), None),
+            wrong,
+        ),
+        (
+            Middle::Transform((b"record ( next: int8; )", b"id * 0.5"), None),
+            wrong,
+        ),
+        // each set sees the fields of the input
+        (
+            Middle::Transform(next, Some((b"record ( more: int32; )", b"next"))),
+            wrong,
+        ),
+        (
+            Middle::Transform(next, Some((b"record ( next: int8; )", b"id"))),
+            Some((ShapeWhy::Double, 1)),
+        ),
+        // a wrong set comes before a doubled name
+        (
+            Middle::Transform(next, Some((b"record ( next: int8; )", b"zip"))),
+            wrong,
+        ),
+    ];
+    for (middle, wanted) in &rows {
+        assert_eq!(rt; answer(alloc, &by_rows(*middle))?, *wanted);
+    }
+    Ok(())
+}
+
+#[test]
+fn kept_and_renamed(rt: HostRuntime) -> Result<(), Fail> {
+    let alloc = rt.alloc();
+    let unknown = Some((ShapeWhy::Field, 1));
+    let named: (&[u8], &[u8]) = (b"record ( name: date; )", b"id");
+    let swapped: (&[u8], &[u8]) = (b"record ( id: date; )", b"name");
+    let rows: [(Middle<'_>, Option<(ShapeWhy, u32)>); 9] = [
+        (Middle::Modify(Some(b"id"), None, None), None),
+        (Middle::Modify(None, Some(b"id"), None), None),
+        (
+            Middle::Modify(None, None, None),
+            Some((ShapeWhy::Schemas, 2)),
+        ),
+        (Middle::Modify(Some(b"zip"), None, None), unknown),
+        (Middle::Modify(None, Some(b"zip"), None), unknown),
+        (Middle::Modify(Some(b"id"), None, Some(named)), None),
+        (Middle::Modify(Some(b"id"), None, Some(swapped)), unknown),
+        (
+            Middle::Modify(None, None, Some(named)),
+            Some((ShapeWhy::Double, 1)),
+        ),
+        (Middle::Copy, Some((ShapeWhy::Schemas, 2))),
+    ];
+    for (middle, wanted) in &rows {
+        assert_eq!(rt; answer(alloc, &one_column(*middle))?, *wanted);
+    }
+    let nothing = Row {
+        schema: b"record ( id: int32; )",
+        ..by_rows(Middle::Modify(None, Some(b"id"), None))
+    };
+    assert_eq!(rt; answer(alloc, &nothing)?, Some((ShapeWhy::Wide, 1)));
     Ok(())
 }

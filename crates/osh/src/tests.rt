@@ -20,6 +20,12 @@ const SAME_INTO_MANY: &[u8] =
 const DEALT: &[u8] =
     b"import -file \"in.txt\" -schema 'record ( id: int32; name: string[max=10]; )' | [rr] copy | [any] export -file \"out.txt\"";
 
+const DOUBLED: &[u8] =
+    b"import -file \"in.txt\" -schema 'record ( id: int32; price: nullable decimal[6,2]; )' | filter -where 'id > 1' [seq] | transform -set 'twice: decimal[8,2] = ifnull(price, 0.00) * 2' [seq] | export -file \"out.txt\"";
+
+const DIVIDED: &[u8] =
+    b"import -file \"in.txt\" -schema 'record ( id: int32; )' | [rr] transform -set 'part: int32 = 10 / id' | [any] export -file \"out.txt\"";
+
 const NODE: &[u8] =
     b"\" { fastname \"h\" pools \"\" resource disk \"d\" {pools \"\"} resource scratchdisk \"s\" {pools \"\"} }\n";
 
@@ -83,7 +89,25 @@ fn compare(rt: &impl Abort, alloc: Global, run: &Run) -> Result<(), Fail> {
     Ok(())
 }
 
-const RUNS: [Run; 8] = [
+const RUNS: [Run; 10] = [
+    Run {
+        flow: DOUBLED,
+        nodes: 2,
+        input: b"1,0.50\n2,1.25\n3,\n",
+        status: 0,
+        out: b"score nodes 2\nop 0 import seq 1\nop 1 filter seq 1\nop 2 transform seq 1\nop 3 export seq 1\nlink 0 0.0 1.0 same\nlink 1 1.0 2.0 same\nlink 2 2.0 3.0 same\nplayers 4\nverdict accepted\nlink 0 agree() solo sort()\nlink 1 agree() solo sort()\nlink 2 agree() solo sort()\nsink 3 exact\ncount 0 3\ncount 1 2\ncount 2 2\nstatus 0\n",
+        err: b"",
+        written: Some(b"2,1.25,2.50\n3,,0.00\n"),
+    },
+    Run {
+        flow: DIVIDED,
+        nodes: 2,
+        input: b"5\n0\n-3\n0\n",
+        status: 9,
+        out: b"score nodes 2\nop 0 import seq 1\nop 1 transform par 2\nop 2 export seq 1\nlink 0 0.0 1.0 rr\nlink 1 1.0 2.0 any\nplayers 4\nverdict accepted\nlink 0 bag none sort()\nlink 1 bag solo sort()\nsink 2 bag\nfaults 2\nleast op 1 ZeroDivisor 0 010000000000000000\nstatus 9\n",
+        err: b"",
+        written: None,
+    },
     Run {
         flow: COPY,
         nodes: 1,

@@ -1,12 +1,31 @@
-use Rattle.std.proofs.Common.{Some, None, refl}
+use Rattle.std.proofs.Common.{◌≡◌, ◌++◌, ◌∷◌, [], Some, None, IfOk, option_copied, refl, ap, ◌∙◌, subst, get_or}
+use Rattle.flow_graph.specs.Charts.{no_op}
+use Rattle.flow_graph.specs.declared.flow.OpSpec.{OpSpec}
+use Rattle.op_shape.specs.Causes.{first_cause}
+use Rattle.op_shape.specs.Options.{fields_in, option_causes, output_causes}
+use Rattle.flow_shape.specs.Refusals.{chart_of, operator_cause}
 use Rattle.flow_shape.proofs.Causing.{known_at, cause_parts}
+use Rattle.flow_shape.proofs.Entries.{first_is}
+use Rattle.flow_shape.proofs.Given.{fed_at}
 use Rattle.flow_shape.proofs.operator.operator_cause.Goals as goal
 
-pub own_cause-requires : goal.own_cause-requires
-own_cause-requires c = let k = known_at c.args.flow.now c.args.op c.requires.known c.requires.op in rw c.op_at.ensures k
+pub own_cause-requires-clause-known : goal.own_cause-requires-clause-known
+own_cause-requires-clause-known c = let k = known_at c.args.flow.now c.args.op c.requires.known c.requires.op in rw c.op_at.ensures k
+
+pub own_cause-requires-clause-fed : goal.own_cause-requires-clause-fed
+own_cause-requires-clause-fed c =
+    let fed = fed_at c.args.flow.now c.args.schemas.now c.args.op _ c.requires.known c.requires.ports c.requires.op c.first_schema.ensures in
+    rw c.op_at.ensures fed
 
 pub returns-in-Some : goal.returns-in-Some
 returns-in-Some c = cause_parts c.args.flow.now c.args.schemas.now c.args.op (Some c.in-Some.why) _ _ (known_at c.args.flow.now c.args.op c.requires.known c.requires.op) c.in-Some.ensures refl refl
 
 pub returns-in-None : goal.returns-in-None
-returns-in-None c = cause_parts c.args.flow.now c.args.schemas.now c.args.op None c.own_cause.result c.first_fields.result.now (known_at c.args.flow.now c.args.op c.requires.known c.requires.op) c.in-None.ensures c.first_fields.ensures.fields (rw (← c.op_at.ensures) c.own_cause.ensures)
+returns-in-None c =
+    let k = (get_or c.args.flow.now.ops c.args.op no_op).kind in
+    let first = fields_in (option_copied c.first_schema.result) in
+    let e : first_cause (option_causes c.op_at.result.now.kind (first ∷ []) ++ output_causes c.op_at.result.now.kind (first ∷ [])) ≡ operator_cause (chart_of c.args.flow.now c.args.schemas.now) c.args.op =
+    ap (λ (s : OpSpec). first_cause (option_causes s.kind (first ∷ []) ++ output_causes s.kind (first ∷ []))) c.op_at.ensures
+    ∙ cause_parts c.args.flow.now c.args.schemas.now c.args.op None (first_cause (option_causes k (first ∷ []) ++ output_causes k (first ∷ []))) first (known_at c.args.flow.now c.args.op c.requires.known c.requires.op)
+    c.in-None.ensures (first_is c.args.flow.now c.args.schemas.now c.args.op _ c.first_schema.ensures) refl in
+    subst (λ x. IfOk c.own_cause.result (λ cause. cause ≡ x)) e c.own_cause.ensures

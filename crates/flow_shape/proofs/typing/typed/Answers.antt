@@ -8,7 +8,10 @@ operator_cause-requires-clause-op c = (place_in (length c.args.flow.now.ops) c.l
 pub returns-in-Some-clause-bad : goal.returns-in-Some-clause-bad
 returns-in-Some-clause-bad c =
     fault_at c.args.flow.now c.loop-op.schemas.items c.args.order.now c.loop-op.op-index 0 c.in-Some.why c.requires.order c.loop-op-test.true
-    (rw (← c.as_slice-in-loop-op.ensures.value) (sym c.in-Some.ensures)) c.loop-op.invariant.fit
+    (rw (← c.as_slice-in-loop-op.ensures.value) (sym c.in_ok-why.ensures ∙ c.in-Some.is)) c.loop-op.invariant.fit
+
+pub give-requires-clause-sound : goal.give-requires-clause-sound
+give-requires-clause-sound c = rw (← c.as_slice-in-loop-op.ensures.value) (sym c.in_ok-why.ensures ∙ c.in_default.is)
 
 pub give-requires-clause-alone : goal.give-requires-clause-alone
 give-requires-clause-alone c =
@@ -19,5 +22,5 @@ pub loop-op-preserved : goal.loop-op-preserved
 loop-op-preserved c = record {
   len = c.in_ok-give.ensures.len ∙ c.loop-op.invariant.len;
   fit = fit_more c.args.flow.now c.loop-op.schemas.items c.give.new.schemas.items c.args.order.now c.loop-op.op-index 0 c.requires.order c.loop-op-test.true
-      (rw (← c.as_slice-in-loop-op.ensures.value) (sym c.in_default.ensures)) c.in_ok-give.ensures c.loop-op.invariant.fit;
+      (rw (← c.as_slice-in-loop-op.ensures.value) (sym c.in_ok-why.ensures ∙ c.in_default.is)) c.in_ok-give.ensures c.loop-op.invariant.fit;
 }
