@@ -1,5 +1,5 @@
 -- The options that are printed of an operator say it, and are its text.
-use Rattle.std.proofs.Common.{◌≡◌, ◌≤◌, ℕ, List, [], ◌∷◌, ◌++◌, length, map, filter_map, Bool, true, false, Option, Some, None, refl, sym, ap, ◌∙◌, append_assoc, arith}
+use Rattle.std.proofs.Common.{◌≡◌, ◌≤◌, ℕ, List, [], ◌∷◌, ◌++◌, length, map, Bool, true, false, Option, Some, None, refl, sym, ap, ◌∙◌, append_assoc, arith}
 use Rattle.std.specs.Prelude.{◌==◌, if◌then◌else◌}
 use Rattle.std.specs.List.{flat_map}
 use Rattle.std.proofs.lemmas.Bool.{eqb-true}
@@ -13,20 +13,18 @@ use Rattle.ds_schema.specs.SchemaText.{schema_text}
 use Rattle.flow_graph.specs.declared.op_kind.AggSpec.{AggSpec}
 use Rattle.flow_graph.specs.declared.op_kind.AggSpec.TheVariants as agg
 use Rattle.flow_graph.specs.declared.op_kind.SetSpec.{SetSpec}
-use Rattle.flow_graph.specs.declared.op_kind.OpKind.{OpKind}
 use Rattle.flow_graph.specs.declared.op_kind.OpKind.TheVariants as kind
 use Rattle.osh_table.specs.declared.operator.OpName.TheVariants as op
 use Rattle.osh_table.specs.declared.option.OptName.{OptName}
 use Rattle.osh_table.specs.declared.option.OptName.TheVariants as opt
 use Rattle.osh_table.specs.declared.option.Form.TheVariants as form
-use Rattle.osh_value.specs.declared.value.OptValue.{OptValue}
 use Rattle.osh_value.specs.declared.value.OptValue.TheVariants as value
 use Rattle.osh_value.specs.declared.setting.Setting.{Setting}
 use Rattle.osh_value.specs.Kinds.{found_value, stands, sets_of, transform_by, results_of, kind_of}
-use Rattle.osh_print.specs.OptionText.{option_text, flag_text, set_text, sets_text, cases_text, delim_text, widths_text, keys_option, columns_option, renames_option, missing_text, result_text, results_text, name_of, options_text}
+use Rattle.osh_print.specs.OptionText.{option_text, flag_text, set_text, sets_text, delim_text, widths_text, keys_option, columns_option, renames_option, missing_text, result_text, results_text}
 use Rattle.osh_sound.specs.Grammar.{WrittenOption, setting_of}
 use Rattle.osh_sound.specs.OptionLaws.{written_text}
-use Rattle.osh_sound.specs.OperatorLaws.{one, flag_of, delim_of, widths_of, keys_of, columns_of, renames_of, missing_of, result_of, set_of, written, CanBeSaid, WrittenSays, WrittenIsPrinted}
+use Rattle.osh_sound.specs.OperatorLaws.{one, flag_of, delim_of, widths_of, keys_of, columns_of, renames_of, missing_of, result_of, set_of, written, WrittenSays, WrittenIsPrinted}
 
 -- ---- what they say
 

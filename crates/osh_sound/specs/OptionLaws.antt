@@ -1,9 +1,9 @@
 -- Printed options are spelled as they are read.
-use Rattle.std.specs.Prelude.{◌≡◌, ℕ, Bool, true, false, not, ◌==◌, List, [], ◌∷◌, ◌++◌, Some}
+use Rattle.std.specs.Prelude.{◌≡◌, ℕ, true, not, ◌==◌, List, [], ◌∷◌, Some}
 use Rattle.std.specs.List.{list_all, flat_map, AllByRecursion}
 use Rattle.ds_lex.specs.declared.token.Mode.TheVariants.{Osh}
 use Rattle.ds_lex.specs.Pieces.{is_text_byte}
-use Rattle.ds_lex.specs.Lexemes.{Lexeme, lexed_text}
+use Rattle.ds_lex.specs.Lexemes.{lexed_text}
 use Rattle.ds_schema.specs.SchemaText.{schema_text}
 use Rattle.ds_schema.specs.ColumnText.{names_text, keys_text}
 use Rattle.std.specs.Fmt.{decimal, signed_decimal}

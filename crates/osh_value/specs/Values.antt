@@ -162,7 +162,7 @@ signed_case minus n = if minus then neg_ℤ (pos n) else pos n
 abbrev pub has_case : List ℤ → ℤ → Bool
 has_case found z = list_any (λ case. int_eq case z) found
 
--- a whole number in the range of int64, with an optional `-`, which stands not before
+-- a whole number in the range of int64, with an optional `-`, that is none of those before
 unfoldable pub case_at : List ℤ → List Lexeme → Inside ℤ
 case_at found ts = do
   n ← sort_at sort.Number tt (accept_at (codes "-") ts).1
