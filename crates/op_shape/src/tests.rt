@@ -333,20 +333,17 @@ fn what_options_stand_for(rt: HostRuntime) -> Result<(), Fail> {
     Ok(())
 }
 
-/// The printed schema of an output, where nothing is wrong with the operator.
-fn printed(
+/// The schema of an output, where nothing is wrong with the operator.
+fn output(
     alloc: Global,
     written: Written<'_>,
     people: &Schema,
     out: u32,
-) -> Result<Bytes, Fail> {
+) -> Result<Schema, Fail> {
     let kind = kind(alloc, written)?;
     match own_cause(alloc, &kind, Some(people))? {
         Some(_) => Err("a cause".into()),
-        None => Ok(print_schema(
-            alloc,
-            &output_schema(alloc, &kind, Some(people), out)?,
-        )?),
+        None => Ok(output_schema(alloc, &kind, Some(people), out)?),
     }
 }
 
@@ -407,7 +404,7 @@ fn schemas_of_outputs(rt: HostRuntime) -> Result<(), Fail> {
     let alloc = rt.alloc();
     let people = read_schema(alloc, PEOPLE)?;
     for (written, out, wanted) in OUTPUTS {
-        let found = printed(alloc, written, &people, out)?;
+        let found = print_schema(alloc, &output(alloc, written, &people, out)?)?;
         assert!(rt; found.as_slice() == wanted.as_bytes(), "{wanted}");
     }
     let lines = print_schema(alloc, &line_schema(alloc)?)?;
