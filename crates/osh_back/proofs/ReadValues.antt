@@ -1,5 +1,5 @@
 -- What is read as the value of an option can be spelled as one.
-use Rattle.std.proofs.Common.{◌≡◌, ◌≤◌, ◌-◌, ◌⊎◌, inl, inr, ℕ, zero, suc, ℤ, FitsSigned, w64, lit<, drop, List, [], ◌∷◌, ◌++◌, length, Bool, true, false, Result, Ok, Err, Option, Some, None, refl, sym, ap, ◌∙◌, subst, append_assoc, arith, length-append}
+use Rattle.std.proofs.Common.{◌≡◌, ◌≤◌, ◌-◌, ◌⊎◌, inl, inr, ℕ, zero, suc, ℤ, FitsSigned, w64, drop, List, [], ◌∷◌, ◌++◌, length, Bool, true, false, Result, Ok, Err, Option, Some, None, refl, sym, ap, ◌∙◌, subst, append_assoc, arith, length-append}
 use Rattle.std.specs.Prelude.{if◌then◌else◌, not, ◌&&◌, ◌||◌, ◌==◌, nat_le, nat_lt, codes}
 use Rattle.std.specs.List.{AllByRecursion, list_all}
 use Rattle.std.specs.Option.{option_map}
@@ -190,16 +190,18 @@ left_alone bytes (t ∷ ts) us h = by (bytes_eq t.bytes bytes) h
     by false e = ap (λ (p : Bool × List Lexeme). p.1) e
 
 case_ranges : (minus : Bool) (n : ℕ) → n ≤ greatest_case minus → FitsSigned w64 (signed_case minus n)
-case_ranges true zero h = lit< tt
+case_ranges true zero h = omega arith
 case_ranges true (suc n) h = omega arith
 case_ranges false n h = omega arith
 
--- a number that fits, and is new
-case_by : (found : List ℤ) (minus : Bool) (t : Lexeme) (us rest : List Lexeme) (z : ℤ)
-    → ((let r : Result Lexeme (Refusal (Unit {0})) = if is_size 0 (greatest_case minus) t.bytes then Ok t else refuse t tt in r)
-        >>= λ fits. (let r : Result Lexeme (Refusal (Unit {0})) = if has_case found (signed_case minus (digits_value 10 t.bytes)) then refuse t tt else Ok t in r)
-        >>= λ new. (let r : Inside ℤ = Ok (signed_case minus (digits_value 10 t.bytes), us) in r)) ≡ Ok (z, rest)
-    → FitsSigned w64 z × (has_case found z ≡ false) × (us ≡ rest)
+-- a number behind an optional `-`, where it fits and is new
+abbrev case_behind : List ℤ → Bool → Lexeme → List Lexeme → Inside ℤ
+case_behind found minus t us = do
+  fits ← if is_size 0 (greatest_case minus) t.bytes then Ok t else refuse t tt
+  new ← if has_case found (signed_case minus (digits_value 10 t.bytes)) then refuse t tt else Ok t
+  Ok (signed_case minus (digits_value 10 t.bytes), us)
+
+case_by : (found : List ℤ) (minus : Bool) (t : Lexeme) (us rest : List Lexeme) (z : ℤ) → case_behind found minus t us ≡ Ok (z, rest) → FitsSigned w64 z × (has_case found z ≡ false) × (us ≡ rest)
 case_by found minus t us rest z h =
     let n = digits_value 10 t.bytes in
     let most = greatest_case minus in
@@ -216,17 +218,14 @@ case_step : (found : List ℤ) (ts rest : List Lexeme) (z : ℤ) → SoundIn Inn
 unfolding case_at
 case_step found ts rest z s h = by (accept_at (codes "-") ts) refl h
   where
-    number : (minus : Bool) (us : List Lexeme) → SoundIn Inner us → (sort_at sort.Number (tt {0}) us >>= λ n. (let r : Result Lexeme (Refusal (Unit {0})) = if is_size 0 (greatest_case minus) n.0.bytes then Ok n.0 else refuse n.0 tt in r)
-        >>= λ fits. (let r : Result Lexeme (Refusal (Unit {0})) = if has_case found (signed_case minus (digits_value 10 n.0.bytes)) then refuse n.0 tt else Ok n.0 in r)
-        >>= λ new. (let r : Inside ℤ = Ok (signed_case minus (digits_value 10 n.0.bytes), n.1) in r)) ≡ Ok (z, rest) → (FitsSigned w64 z × (has_case found z ≡ false)) × SoundIn Inner rest
+    number : (minus : Bool) (us : List Lexeme) → SoundIn Inner us → (sort_at sort.Number (tt {0}) us >>= λ n. case_behind found minus n.0 n.1) ≡ Ok (z, rest) → (FitsSigned w64 z × (has_case found z ≡ false)) × SoundIn Inner rest
     number minus us k g =
         let a = bind_ok (sort_at sort.Number (tt {0}) us) _ (z, rest) g in
         let step = sort_step sort.Number us a.0.1 a.0.0 k a.1 in
         let read = case_by found minus a.0.0 a.0.1 rest z a.2 in
         ((read.0, read.1), subst (SoundIn Inner) read.2 step.2)
-    by : (p : Bool × List Lexeme) → accept_at (codes "-") ts ≡ p → (sort_at sort.Number (tt {0}) p.1 >>= λ n. (let r : Result Lexeme (Refusal (Unit {0})) = if is_size 0 (greatest_case p.0) n.0.bytes then Ok n.0 else refuse n.0 tt in r)
-        >>= λ fits. (let r : Result Lexeme (Refusal (Unit {0})) = if has_case found (signed_case p.0 (digits_value 10 n.0.bytes)) then refuse n.0 tt else Ok n.0 in r)
-        >>= λ new. (let r : Inside ℤ = Ok (signed_case p.0 (digits_value 10 n.0.bytes), n.1) in r)) ≡ Ok (z, rest) → (FitsSigned w64 z × (has_case found z ≡ false)) × SoundIn Inner rest
+
+    by : (p : Bool × List Lexeme) → accept_at (codes "-") ts ≡ p → (sort_at sort.Number (tt {0}) p.1 >>= λ n. case_behind found p.0 n.0 n.1) ≡ Ok (z, rest) → (FitsSigned w64 z × (has_case found z ≡ false)) × SoundIn Inner rest
     by (true, us) e g = number true us (sound_behind Inner (codes "-") ts us s (accepted (codes "-") ts us e)) g
     by (false, us) e g = number false us (subst (SoundIn Inner) (left_alone (codes "-") ts us e) s) g
 

@@ -5,7 +5,9 @@ ghost use Rattle.ds_schema.specs.SchemaText.{schema_text};
 ghost use Rattle.osh_table.specs.declared.option.OptName.TheVariants as opt;
 ghost use Rattle.osh_print.specs.OptionText.{behind_key, cases_text, columns_option, delim_text, ends_text, flag_text, key_of, keys_option, missing_text, name_of, option_text, options_text, pair_text, renames_option, result_text, results_text, set_text, sets_text, widths_text};
 
-use crate::value::{append_option, missing_word, print_cases, print_pairs, print_set, print_widths};
+use crate::value::{
+    append_option, missing_word, print_cases, print_pairs, print_set, print_widths,
+};
 use ds_schema::{Schema, print_keys, print_names, print_schema};
 use ds_value::{Bytes, Items, Name, NoMemory};
 use flow_graph::{AggSpec, OpKind, SetSpec};

@@ -40,6 +40,14 @@ const SCHEMAS: [&str; 3] = [
     "record(x:uint64)",
 ];
 
+const EXPRESSIONS: [&str; 5] = [
+    "a",
+    "a + 1 /* one */ * -b",
+    "b == 'x' && !(a < 2.5)",
+    "concat(c, \"x y\")",
+    "12",
+];
+
 /// A name that begins with the letter of this number.
 fn name(alloc: Global, random: &mut Random, index: u8) -> Result<Name, Fail> {
     let mut bytes = Vec::new(alloc);
@@ -213,10 +221,55 @@ fn other(alloc: Global, random: &mut Random) -> Result<OpKind, Fail> {
     })
 }
 
+/// What is kept of an expression.
+fn expression(alloc: Global, random: &mut Random) -> Result<Bytes, Fail> {
+    let text = EXPRESSIONS
+        .get(random.below(5) as usize)
+        .ok_or("expression")?;
+    bytes(alloc, text)
+}
+
+fn sets(alloc: Global, random: &mut Random) -> Result<Items<SetSpec>, Fail> {
+    let mut sets = Items::new(alloc);
+    for _count in 0..1 + random.below(3) {
+        let schema = schema(alloc, random)?;
+        let field = schema.as_slice().first().ok_or("field")?.copied()?;
+        let expr = expression(alloc, random)?;
+        sets.push(SetSpec { field, expr })?;
+    }
+    Ok(sets)
+}
+
+fn with_expressions(alloc: Global, random: &mut Random) -> Result<OpKind, Fail> {
+    Ok(match random.below(3) {
+        0 => OpKind::Filter {
+            test: expression(alloc, random)?,
+            reject: random.coin(),
+        },
+        1 => OpKind::Transform {
+            set: sets(alloc, random)?,
+            reject: random.coin(),
+        },
+        _ => {
+            let mut cases = Items::new(alloc);
+            for index in 0..1 + random.below(3) {
+                let case = index as i64 * 5;
+                cases.push(if random.coin() { case } else { -1 - case })?;
+            }
+            OpKind::Switch {
+                on: expression(alloc, random)?,
+                cases,
+                reject: random.coin(),
+            }
+        }
+    })
+}
+
 fn spec(alloc: Global, random: &mut Random) -> Result<OpSpec, Fail> {
-    let kind = match random.below(3) {
+    let kind = match random.below(4) {
         0 => ends(alloc, random)?,
         1 => keyed(alloc, random)?,
+        2 => with_expressions(alloc, random)?,
         _ => other(alloc, random)?,
     };
     let mark = match &kind {
@@ -373,10 +426,22 @@ fn printed(alloc: Global, kind: OpKind) -> Result<Bytes, Fail> {
 fn expressions_are_printed(rt: HostRuntime) -> Result<(), Fail> {
     let alloc = rt.alloc();
     let cases = [
-        (filter(alloc, "a == 'x'", true)?, "filter -where \"a == 'x'\" -reject;\n"),
-        (filter(alloc, "a == \"x\"", false)?, "filter -where 'a == \"x\"';\n"),
-        (transform(alloc)?, "transform -set \"b: int32 = a + 1\" -set 'c: nullable decimal[8,0] = \"x\"' -set \"a: string[max=5] = 'x'\" -set \"d: string[3] = b\" -reject;\n"),
-        (switch(alloc)?, "switch -on \"a % 3\" -cases \"1,-2,0,-9223372036854775808,9223372036854775807\";\n"),
+        (
+            filter(alloc, "a == 'x'", true)?,
+            "filter -where \"a == 'x'\" -reject;\n",
+        ),
+        (
+            filter(alloc, "a == \"x\"", false)?,
+            "filter -where 'a == \"x\"';\n",
+        ),
+        (
+            transform(alloc)?,
+            "transform -set \"b: int32 = a + 1\" -set 'c: nullable decimal[8,0] = \"x\"' -set \"a: string[max=5] = 'x'\" -set \"d: string[3] = b\" -reject;\n",
+        ),
+        (
+            switch(alloc)?,
+            "switch -on \"a % 3\" -cases \"1,-2,0,-9223372036854775808,9223372036854775807\";\n",
+        ),
     ];
     for (kind, wanted) in cases {
         let text = printed(alloc, kind)?;

@@ -132,7 +132,11 @@ pub fn print_set(alloc: Global, spec: &SetSpec) -> Result<Bytes, NoMemory>
     ensures { IfOk result (λ text. text ≡ set_text spec.now) }
 {
     let kind = kind_text(alloc, spec.field.kind)?;
-    let nullable: &[u8] = if spec.field.nullable { b"nullable " } else { b"" };
+    let nullable: &[u8] = if spec.field.nullable {
+        b"nullable "
+    } else {
+        b""
+    };
     let mut text = Bytes::new(alloc);
     text.append(spec.field.name.as_slice())?;
     text.append(b": ")?;
