@@ -23,7 +23,6 @@ last_end : (t : Lexeme) (ts : List Lexeme) → place_behind (last_of t ts) ≡ e
 last_end t [] = refl
 last_end t (u ∷ ts) = last_end u ts
 
-
 dropped_take : (a b : ℕ) (xs : List ℕ) → a ≤ b → drop a (take b xs) ≡ take (b - a) (drop a xs)
 dropped_take a b xs h = let e : b ≡ a + (b - a) = omega arith in ap (λ n. drop a (take n xs)) e ∙ drop-take a (b - a) xs
 

@@ -67,11 +67,13 @@ may_stand level.Compare links others e h = omega arith
 may_stand l links others e h = tt
 
 chain_moves : (d e : ℕ) (l : Level) (F : Form) → Moves d e F → Moves d e (chain_form l F)
-chain_moves d e l F m = record { moves = λ x ts rest us h s. (
-    let all = h.4 in
-    let first = m.moves h.0 ts all.0 us all.1 s in
-    let links = links_move d e l F m h.1 all.0 rest first.left all.2 first.same in
-    record { expr = chained first.expr links.others; left = links.left; same = links.same; spelled = (first.expr, links.others, refl, may_stand l h.1 links.others links.many h.3, (first.left, first.spelled, links.spelled)) }) }
+chain_moves d e l F m = record {
+  moves = λ x ts rest us h s. (
+      let all = h.4 in
+      let first = m.moves h.0 ts all.0 us all.1 s in
+      let links = links_move d e l F m h.1 all.0 rest first.left all.2 first.same in
+      record { expr = chained first.expr links.others; left = links.left; same = links.same; spelled = (first.expr, links.others, refl, may_stand l h.1 links.others links.many h.3, (first.left, first.spelled, links.spelled)) });
+}
 
 or_moves : (d e : ℕ) (F : Form) → Moves d e F → Moves d e (or_form F)
 or_moves d e F m = chain_moves d e level.Or _ (chain_moves d e level.And _ (chain_moves d e level.Compare _ (chain_moves d e level.Sum _ (chain_moves d e level.Product F m))))
@@ -181,5 +183,6 @@ shifted_spells d e n x ts us h s = by ((or_moves d e (unary_form n) (unary_moves
     ended : (y : Expr) (left : List Lexeme) → Shifted d e [] left → or_form (unary_form n) y us left → or_form (unary_form n) y us []
     ended y [] s k = k
     ended y (u ∷ left) s k = absurd s
+
     by : Spells d e (or_form (unary_form n)) us [] → (y : Expr) × or_form (unary_form n) y us []
     by r = (r.expr, ended r.expr r.left r.same r.spelled)
