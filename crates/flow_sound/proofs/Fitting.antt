@@ -1,43 +1,41 @@
 -- Operators of the kinds that a shaped flow names are such as the law of flows asks.
-use Rattle.std.proofs.Common.{◌≡◌, ℕ, zero, suc, ◌<◌, Bool, true, false, cond, List, [], ◌∷◌, map, get_or, refl, sym, ap, ◌∙◌, subst, length, flat_map, Option, Some, None}
+use Rattle.std.proofs.Common.{◌≡◌, ℕ, zero, suc, ◌<◌, Bool, true, false, cond, List, [], ◌∷◌, map, get_or, refl, sym, ap, ap₂, ◌∙◌, subst, length, flat_map, Option, Some, None}
 use Rattle.std.specs.List.{AllByRecursion}
-use Rattle.ds_schema.specs.declared.key.Key.{Key}
 use Rattle.ds_schema.specs.declared.schema.Field.{Field}
-use Rattle.ds_schema.specs.Schemas.{fits_field, row_fits}
+use Rattle.ds_schema.specs.Schemas.{row_fits}
 use Rattle.op_base.specs.Columns.{IsIn, Row}
 use Rattle.op_base.specs.Meanings.{Line, good, bad, line_rows}
-use Rattle.op_base.specs.RowOperators.{copy_rule}
-use Rattle.op_base.proofs.All.{all_append, all_map, both_true, map_two}
+use Rattle.op_base.specs.RowOperators.{copy_rule, transform_passes}
+use Rattle.op_row.specs.Expressed.{input_fields, targets}
+use Rattle.op_base.proofs.All.{all_append, all_map, map_two}
 use Rattle.flow_graph.specs.declared.op_kind.OpKind.{OpKind}
 use Rattle.flow_graph.specs.declared.op_kind.OpKind.TheVariants as kind
+use Rattle.flow_graph.specs.declared.op_kind.SetSpec.{SetSpec}
+use Rattle.flow_graph.specs.declared.parts.OpParts.{OpParts}
 use Rattle.flow_graph.specs.declared.parts.Stored.{Stored}
 use Rattle.flow_graph.specs.declared.route.Route.{Route}
 use Rattle.flow_graph.specs.declared.route.Route.TheVariants as route
-use Rattle.flow_graph.specs.Charts.{Chart, cols_at, first_width, into_seq, keys_at, kind_form, link_at, links_into, op_at, width_at}
+use Rattle.flow_graph.specs.Charts.{Chart, first_fields as fields_into, first_width, into_seq, kind_form, link_at, links_into, op_at, parts_of, width_at}
 use Rattle.flow_graph.specs.FlowShape.{FormPorts, WrittenFits}
-use Rattle.flow_graph.specs.Forms.{form}
-use Rattle.flow_graph.specs.Operators.{Op}
+use Rattle.flow_graph.specs.Forms.{form, by_row as passing}
+use Rattle.flow_graph.specs.Operators.{Op, by_row}
+use Rattle.flow_graph.specs.RowRules.{ExprsFit, row_rule, sets_of}
 use Rattle.flow_graph.specs.Runs.{FitsShape, Out, RouteFits}
 use Rattle.flow_graph.specs.Shapes.{FitsPorts, HasPort, IsShaped, KeysDistinct, RowShape, Wide}
 use Rattle.flow_graph.proofs.RowShapes.{copy_shape, sink_shape}
 use Rattle.flow_rules.specs.Verdicts.{node_at, written_or_same}
-use Rattle.op_shape.specs.Options.{first_fields, import_fields, line_fields, output_fields}
+use Rattle.op_shape.specs.Options.{first_fields, line_fields, made_or_rejected, output_fields}
 use Rattle.flow_shape.specs.Refusals.{Fits, fields_at, inputs_at, kind_at}
-use Rattle.flow_sound.specs.Fitting.{RowsFit}
+use Rattle.flow_sound.specs.Fitting.{IsByRow, RowsFit}
 use Rattle.flow_sound.specs.Kinds.{IsOfKind, LineFits}
 use Rattle.flow_sound.specs.Promise.{FormsFit, OperatorsFit}
+use Rattle.flow_sound.proofs.ByRow.{one_input, row_shape, works_at}
 use Rattle.flow_sound.proofs.Members.{below_all}
 use Rattle.flow_sound.proofs.Order.{all_nodes, all_outs, leaves_it}
-
--- a row that fits has a value for each field
-pub fits_long : (fields : List Field) (r : Row) → row_fits fields r ≡ true → length r ≡ length fields
-fits_long [] [] e = refl
-fits_long [] (v ∷ r) e = cc
-fits_long (f ∷ fields) [] e = cc
-fits_long (f ∷ fields) (v ∷ r) e = ap suc (fits_long fields r (both_true (fits_field f v) (row_fits fields r) e).1)
+use Rattle.flow_sound.proofs.Working.{Works, fits_long, targets_are}
 
 -- what an import gives fits the fields of that output
-line_fits : (schema : List Field) (rejects : Bool) (line : Line) (q : ℕ) → LineFits schema line → RowsFit (import_fields schema q) (line_rows q rejects line)
+line_fits : (schema : List Field) (rejects : Bool) (line : Line) (q : ℕ) → LineFits schema line → RowsFit (made_or_rejected schema line_fields q) (line_rows q rejects line)
 line_fits schema rejects (good r) zero h = (h, tt)
 line_fits schema rejects (good r) (suc q) h = tt
 line_fits schema rejects (bad r f) zero h = tt
@@ -47,20 +45,28 @@ line_fits schema rejects (bad r f) (suc q) h = go rejects
     go true = (h, tt)
     go false = tt
 
-pub lines_fit : (schema : List Field) (rejects : Bool) (lines : List Line) (q : ℕ) → AllByRecursion (LineFits schema) lines → RowsFit (import_fields schema q) (flat_map (line_rows q rejects) lines)
+pub lines_fit : (schema : List Field) (rejects : Bool) (lines : List Line) (q : ℕ) → AllByRecursion (LineFits schema) lines → RowsFit (made_or_rejected schema line_fields q) (flat_map (line_rows q rejects) lines)
 lines_fit schema rejects [] q h = tt
-lines_fit schema rejects (line ∷ lines) q h = all_append (λ (r : Row). row_fits (import_fields schema q) r ≡ true) (line_rows q rejects line) (flat_map (line_rows q rejects) lines) (line_fits schema rejects line q h.0) (lines_fit schema rejects lines q h.1)
+lines_fit schema rejects (line ∷ lines) q h = all_append (λ (r : Row). row_fits (made_or_rejected schema line_fields q) r ≡ true) (line_rows q rejects line) (flat_map (line_rows q rejects) lines) (line_fits schema rejects line q h.0) (lines_fit schema rejects lines q h.1)
 
 rows_wide : (fields : List Field) (rows : List Row) → RowsFit fields rows → AllByRecursion (Wide (length fields)) rows
 rows_wide fields rows h = all_map (λ (r : Row). row_fits fields r ≡ true) (Wide (length fields)) (fits_long fields) rows h
 
-kind_forms : (k : OpKind) (keys : List (List Key)) (op : Op) (columns : List ℕ) (stored : Option Stored) (width : ℕ) → IsOfKind k keys op → form op ≡ kind_form k keys columns stored width
-kind_forms (kind.Import file schema delim fixed reject) keys op columns stored width h = ap form h.3
-kind_forms (kind.Export file delim fixed) keys op columns stored width h = ap form h.1
-kind_forms kind.Copy keys op columns stored width h = ap form h
-kind_forms (kind.Tsort key) keys op columns stored width h = ap form h
-kind_forms (kind.Remdup key last) keys op columns stored width h = ap form h
-kind_forms k keys op columns stored width h = absurd h
+-- what passes of a transform's rows, by its columns
+set_passes : (set : List SetSpec) (reject : Bool) (fields : List Field) (parts : OpParts) → ExprsFit fields (kind.Transform set reject) parts → let sets = sets_of set parts.cols parts.exprs in transform_passes (length (input_fields sets)) (targets sets) ≡ transform_passes (length fields) parts.cols
+set_passes set reject fields parts x = ap₂ transform_passes (ap length x.4) (targets_are set parts.cols parts.exprs x.1 x.2)
+
+kind_forms : (o : ℕ) (k : OpKind) (parts : OpParts) (op : Op) (stored : Option Stored) (fields : List Field) → IsOfKind o k parts op → ExprsFit fields k parts → form op ≡ kind_form k parts.keys parts.cols stored (length fields)
+kind_forms o (kind.Import file schema delim fixed reject) parts op stored fields h x = ap form h.3
+kind_forms o (kind.Export file delim fixed) parts op stored fields h x = ap form h.1
+kind_forms o kind.Copy parts op stored fields h x = ap form h
+kind_forms o (kind.Filter test reject) parts op stored fields h x = ap form h
+kind_forms o (kind.Transform set reject) parts op stored fields h x = ap form h ∙ ap passing (set_passes set reject fields parts x)
+kind_forms o (kind.Modify keep drop rename) parts op stored fields h x = ap form h
+kind_forms o (kind.Switch on cases reject) parts op stored fields h x = ap form h
+kind_forms o (kind.Tsort key) parts op stored fields h x = ap form h
+kind_forms o (kind.Remdup key last) parts op stored fields h x = ap form h
+kind_forms o k parts op stored fields h x = absurd h
 
 first_long : (inputs : List (List Field)) → get_or (map length inputs) 0 0 ≡ length (first_fields inputs)
 first_long [] = refl
@@ -70,18 +76,27 @@ first_long (fields ∷ inputs) = refl
 abbrev Suits : OpKind → List (List Field) → ℕ → Op → Type 0
 Suits k inputs n op = IsShaped op (map length inputs) (λ q. length (output_fields k inputs q)) × FitsPorts op n × KeysDistinct op × ((q : ℕ) → HasPort op q)
 
-kind_suits : (k : OpKind) (keys : List (List Key)) (op : Op) (columns : List ℕ) (stored : Option Stored) (width n : ℕ) (inputs : List (List Field)) → IsOfKind k keys op → FormPorts (kind_form k keys columns stored width) n → Suits k inputs n op
-kind_suits (kind.Import file schema delim fixed reject) keys op columns stored width n inputs h p =
-    subst (Suits (kind.Import file schema delim fixed reject) inputs n) (sym h.3) (λ q. rows_wide (import_fields schema q) (flat_map (line_rows q reject) h.0) (lines_fit schema reject h.0 q h.2), p, tt, λ q. tt)
-kind_suits (kind.Export file delim fixed) keys op columns stored width n inputs h p =
+-- one that works row by row
+by_row_suits : (o : ℕ) (k : OpKind) (parts : OpParts) (op : Op) (n : ℕ) (fields : List Field) (inputs : List (List Field)) → IsByRow k → Works k fields parts → inputs ≡ fields ∷ [] → n ≡ 1 → op ≡ by_row (row_rule o k parts) → Suits k inputs n op
+by_row_suits o k parts op n fields inputs h w one p e =
+    subst (λ ins. Suits k ins n op) (sym one) (subst (Suits k (fields ∷ []) n) (sym e) (row_shape o k fields parts h w, p, tt, λ q. tt))
+
+kind_suits : (o : ℕ) (k : OpKind) (parts : OpParts) (op : Op) (stored : Option Stored) (width n : ℕ) (fields : List Field) (inputs : List (List Field)) → IsOfKind o k parts op → FormPorts (kind_form k parts.keys parts.cols stored width) n → (IsByRow k → Works k fields parts × (inputs ≡ fields ∷ [])) → Suits k inputs n op
+kind_suits o (kind.Import file schema delim fixed reject) parts op stored width n fields inputs h p w =
+    subst (Suits (kind.Import file schema delim fixed reject) inputs n) (sym h.3) (λ q. rows_wide (made_or_rejected schema line_fields q) (flat_map (line_rows q reject) h.0) (lines_fit schema reject h.0 q h.2), p, tt, λ q. tt)
+kind_suits o (kind.Export file delim fixed) parts op stored width n fields inputs h p w =
     subst (Suits (kind.Export file delim fixed) inputs n) (sym h.1) (sink_shape (get_or (map length inputs) 0 0) h.0 (λ q. length (first_fields inputs)), p, tt, λ q. tt)
-kind_suits kind.Copy keys op columns stored width n inputs h p =
-    subst (Suits kind.Copy inputs n) (sym h) (subst (λ w. RowShape copy_rule (get_or (map length inputs) 0 0) (λ q. w)) (first_long inputs) (copy_shape (get_or (map length inputs) 0 0)), p, tt, λ q. tt)
-kind_suits (kind.Tsort key) keys op columns stored width n inputs h p =
+kind_suits o kind.Copy parts op stored width n fields inputs h p w =
+    subst (Suits kind.Copy inputs n) (sym h) (subst (λ m. RowShape copy_rule (get_or (map length inputs) 0 0) (λ q. m)) (first_long inputs) (copy_shape (get_or (map length inputs) 0 0)), p, tt, λ q. tt)
+kind_suits o (kind.Filter test reject) parts op stored width n fields inputs h p w = by_row_suits o (kind.Filter test reject) parts op n fields inputs tt (w tt).0 (w tt).1 p h
+kind_suits o (kind.Transform set reject) parts op stored width n fields inputs h p w = by_row_suits o (kind.Transform set reject) parts op n fields inputs tt (w tt).0 (w tt).1 p h
+kind_suits o (kind.Modify keep drop rename) parts op stored width n fields inputs h p w = by_row_suits o (kind.Modify keep drop rename) parts op n fields inputs tt (w tt).0 (w tt).1 p h
+kind_suits o (kind.Switch on cases reject) parts op stored width n fields inputs h p w = by_row_suits o (kind.Switch on cases reject) parts op n fields inputs tt (w tt).0 (w tt).1 p h
+kind_suits o (kind.Tsort key) parts op stored width n fields inputs h p w =
     subst (Suits (kind.Tsort key) inputs n) (sym h) (λ q. sym (first_long inputs), p, tt, λ q. tt)
-kind_suits (kind.Remdup key last) keys op columns stored width n inputs h p =
+kind_suits o (kind.Remdup key last) parts op stored width n fields inputs h p w =
     subst (Suits (kind.Remdup key last) inputs n) (sym h) (λ q. sym (first_long inputs), p, tt, λ q. tt)
-kind_suits k keys op columns stored width n inputs h p = absurd h
+kind_suits o k parts op stored width n fields inputs h p w = absurd h
 
 route_fits : (seq : Bool) (width : ℕ) (written : Option Route) → WrittenFits seq width written → RouteFits width (written_or_same written)
 route_fits seq width None h = tt
@@ -95,7 +110,9 @@ route_fits seq width (Some route.Any) h = h.1
 route_fits seq width (Some route.Ordered) h = h.1
 
 pub forms_fit : FormsFit
-forms_fit flow dict c ops s o i = kind_forms (op_at c o).kind (keys_at c o) (ops o) (cols_at c o) (get_or c.stored o None) (first_width c o) (s.kinds o (below_all (length c.flow.ops) o c.order s.shape.order.once i))
+forms_fit flow dict c ops s o i =
+    let b = below_all (length c.flow.ops) o c.order s.shape.order.once i in
+    kind_forms o (op_at c o).kind (parts_of c o) (ops o) (get_or c.stored o None) (fields_into c o) (s.kinds o b) (s.shape.ops o b).exprs
 
 -- what its producer gives on a link
 pub given_there : (c : Chart) (o l : ℕ) → Fits c o → l < length c.flow.links → (link_at c l).from ≡ o → fields_at c l ≡ output_fields (kind_at c o) (inputs_at c o) (link_at c l).out
@@ -108,7 +125,7 @@ operators_fit flow dict c ops s = all_nodes (FitsShape (width_at c)) c ops node
     node o i =
         let b = below_all (length c.flow.ops) o c.order s.shape.order.once i in
         let ports = (s.shape.ops o b).inputs in
-        let suits = kind_suits (op_at c o).kind (keys_at c o) (ops o) (cols_at c o) (get_or c.stored o None) (first_width c o) (length (links_into c o)) (inputs_at c o) (s.kinds o b) ports in
+        let suits = kind_suits o (op_at c o).kind (parts_of c o) (ops o) (get_or c.stored o None) (first_width c o) (length (links_into c o)) (fields_into c o) (inputs_at c o) (s.kinds o b) ports (λ h. (works_at flow dict c s.shape s.shape_of o b h, one_input c o s.shape b h)) in
         let widths = map_two (fields_at c) length (links_into c o) in (
           λ q. length (output_fields (kind_at c o) (inputs_at c o) q),
           subst (λ ws. IsShaped (ops o) ws (λ q. length (output_fields (kind_at c o) (inputs_at c o) q))) widths suits.0,

@@ -1,7 +1,13 @@
 pub mod Members
 pub mod Order
 pub mod Meaning
+pub mod TypedTrees
+pub mod Assigned
+pub mod SetRows
+pub mod Working
+pub mod ByRow
 pub mod Fitting
 pub mod Keeping
 pub mod Tallying
 pub mod RowsFitting
+pub mod RowsStaying

@@ -13,3 +13,9 @@ pub mod Standing
 pub mod Legal
 pub mod Inputs
 pub mod Steps
+pub mod Leasts
+pub mod Tallying
+pub mod Working
+pub mod Suiting
+pub mod Splitting
+pub mod Permuted

@@ -83,8 +83,8 @@ once_only (x ∷ xs) h (suc i) l (inr m) = once_only xs h.1 i (omega arith) m
 pub not_before : (c : Chart) → IsOrder c → (i : ℕ) → i < length c.order → IsIn (get_or c.order i 0) (take i c.order) → ⊥
 not_before c h i l m = once_only c.order (IsDistinct-IsPermutation eqb flips (range_with_len 0 (length c.flow.ops)) c.order h.once (range_distinct 0 (length c.flow.ops))) i l m
 
-front : (xs : List ℕ) (n : ℕ) → n < length xs → take (n + 1) xs ≡ take n xs ++ get_or xs n 0 ∷ []
-front xs n m = rw add-one (take-suc xs n 0 m)
+pub order_front : (xs : List ℕ) (n : ℕ) → n < length xs → take (n + 1) xs ≡ take n xs ++ get_or xs n 0 ∷ []
+order_front xs n m = rw add-one (take-suc xs n 0 m)
 
 -- all of the order are operators
 range_below : (a n k : ℕ) → a + n ≤ k → AllByRecursion (λ o. o < k) (range_with_len a n)
@@ -103,7 +103,7 @@ at_place P (y ∷ ys) (suc j) l h = at_place P ys j (omega (arith, l)) h.1
 
 -- one more turn
 pub turn_more : (c : Chart) (n o : ℕ) → n < length c.order → HadTurn c (n + 1) o → HadTurn c n o ⊎ (o ≡ get_or c.order n 0)
-turn_more c n o m h = go (in_either o (take n c.order) (get_or c.order n 0 ∷ []) (subst (IsIn o) (front c.order n m) h))
+turn_more c n o m h = go (in_either o (take n c.order) (get_or c.order n 0 ∷ []) (subst (IsIn o) (order_front c.order n m) h))
   where
     go : (IsIn o (take n c.order) ⊎ IsIn o (get_or c.order n 0 ∷ [])) → HadTurn c n o ⊎ (o ≡ get_or c.order n 0)
     go (inl i) = inl i
@@ -111,7 +111,7 @@ turn_more c n o m h = go (in_either o (take n c.order) (get_or c.order n 0 ∷ [
     go (inr (inr x)) = absurd x
 
 pub turn_before : (c : Chart) (n o : ℕ) → n < length c.order → HadTurn c n o → HadTurn c (n + 1) o
-turn_before c n o m h = subst (IsIn o) (sym (front c.order n m)) (in_left o (take n c.order) (get_or c.order n 0 ∷ []) h)
+turn_before c n o m h = subst (IsIn o) (sym (order_front c.order n m)) (in_left o (take n c.order) (get_or c.order n 0 ∷ []) h)
 
 pub turn_now : (c : Chart) (n : ℕ) → n < length c.order → HadTurn c (n + 1) (get_or c.order n 0)
-turn_now c n m = subst (IsIn (get_or c.order n 0)) (sym (front c.order n m)) (in_right (get_or c.order n 0) (take n c.order) (get_or c.order n 0 ∷ []) (inl refl))
+turn_now c n m = subst (IsIn (get_or c.order n 0)) (sym (order_front c.order n m)) (in_right (get_or c.order n 0) (take n c.order) (get_or c.order n 0 ∷ []) (inl refl))

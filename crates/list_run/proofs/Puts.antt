@@ -14,9 +14,9 @@ use Rattle.list_run.specs.Runnable.{row_count}
 use Rattle.list_run.proofs.Links.{equal_from, same_at}
 
 pub put_one : (c : Chart) (nodes k : ℕ) (sent : List (List Row)) (old new : Held) → k < length c.flow.links → HasRoom c old →
-    new.waiting.items ≡ set old.waiting.items k (got_on c nodes k sent) → new.counts.items ≡ set old.counts.items k (row_count sent) → new.sinks.items ≡ old.sinks.items →
+    new.waiting.items ≡ set old.waiting.items k (got_on c nodes k sent) → new.counts.items ≡ set old.counts.items k (row_count sent) → new.sinks.items ≡ old.sinks.items → new.tally ≡ old.tally →
     Puts c nodes (λ l. l == k) (λ l. sent) old new
-put_one c nodes k sent old new m room w n s = record {
+put_one c nodes k sent old new m room w n s t = record {
   room = record { waiting = ap length w ∙ length-set old.waiting.items k (got_on c nodes k sent) ∙ room.waiting; counts = ap length n ∙ length-set old.counts.items k (row_count sent) ∙ room.counts; sinks = ap length s ∙ room.sinks };
   waiting = λ l u t. let e = equal_from l k t in
       ap (λ ls. get_or ls l []) w ∙ ap (λ i. get_or (set old.waiting.items k (got_on c nodes k sent)) i []) e ∙ get_or-set_same old.waiting.items k (got_on c nodes k sent) [] (subst (λ n. k < n) (sym room.waiting) m) ∙ ap (λ i. got_on c nodes i sent) (sym e);
@@ -25,6 +25,7 @@ put_one c nodes k sent old new m room w n s = record {
   kept = λ l t. ap (λ ls. get_or ls l []) w ∙ get_or-set_other old.waiting.items k l (got_on c nodes k sent) [] (differs l t);
   kept_counts = λ l t. ap (λ ls. get_or ls l 0) n ∙ get_or-set_other old.counts.items k l (row_count sent) 0 (differs l t);
   sinks = s;
+  tally = t;
 }
   where
     differs : (l : ℕ) → (l == k) ≡ false → l ≢ k
@@ -38,6 +39,7 @@ put_none c nodes sent old room = record {
   kept = λ l t. refl;
   kept_counts = λ l t. refl;
   sinks = refl;
+  tally = refl;
 }
 
 -- one more link, of which something is sent that is said of all
@@ -50,6 +52,7 @@ put_more c nodes k takes later sent one old mid new same says f g = record {
   kept = λ l t. let n = none (l == k) (takes l) (sym (says l) ∙ t) in g.kept l n.0 ∙ f.kept l n.1;
   kept_counts = λ l t. let n = none (l == k) (takes l) (sym (says l) ∙ t) in g.kept_counts l n.0 ∙ f.kept_counts l n.1;
   sinks = g.sinks ∙ f.sinks;
+  tally = g.tally ∙ f.tally;
 }
   where
     none : (a b : Bool) → cond a true b ≡ false → (a ≡ false) × (b ≡ false)
@@ -73,6 +76,19 @@ put_as c nodes takes later sent old new says f = record {
   kept = λ l t. f.kept l (sym (says l) ∙ t);
   kept_counts = λ l t. f.kept_counts l (sym (says l) ∙ t);
   sinks = f.sinks;
+  tally = f.tally;
+}
+
+-- and of what is sent
+pub put_sent : (c : Chart) (nodes : ℕ) (takes : ℕ → Bool) (sent other : ℕ → List (List Row)) (old new : Held) → ((l : ℕ) → sent l ≡ other l) → Puts c nodes takes sent old new → Puts c nodes takes other old new
+put_sent c nodes takes sent other old new same f = record {
+  room = f.room;
+  waiting = λ l m t. f.waiting l m t ∙ ap (got_on c nodes l) (same l);
+  counts = λ l m t. f.counts l m t ∙ ap row_count (same l);
+  kept = f.kept;
+  kept_counts = f.kept_counts;
+  sinks = f.sinks;
+  tally = f.tally;
 }
 
 -- of the links below i + 1, those below i and i itself, where it is one

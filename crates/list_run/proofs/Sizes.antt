@@ -1,27 +1,32 @@
 -- The lists on all links: they are settled after a turn for each operator, and have as many partitions as their consumers and rows that fit.
 use Rattle.std.proofs.Common.{◌≡◌, ◌⊎◌, inl, inr, ℕ, zero, suc, ◌+◌, ◌<◌, ◌≤◌, cond, refl, sym, ap, ◌∙◌, subst, List, [], ◌∷◌, ◌++◌, map, length, get_or, arith}
-use Rattle.std.specs.List.{AllByRecursion}
+use Rattle.std.specs.List.{AllByRecursion, flat_map}
 use Rattle.std.proofs.lemmas.List.{length-map}
 use Rattle.std.proofs.lemmas.List.Elements.{recursion_from_All}
 use Rattle.ds_schema.specs.declared.key.Key.{Key}
+use Rattle.ds_schema.specs.declared.schema.Field.{Field}
 use Rattle.op_base.proofs.All.{all_map}
 use Rattle.op_base.specs.Columns.{Row, IsIn, Lies}
 use Rattle.flow_graph.specs.declared.op_kind.OpKind.{OpKind}
 use Rattle.flow_graph.specs.declared.op_kind.OpKind.TheVariants as kind
+use Rattle.flow_graph.specs.declared.parts.OpParts.{OpParts}
 use Rattle.flow_graph.specs.declared.route.Choice.{Choice}
-use Rattle.flow_graph.specs.Charts.{Chart, link_at, links_into, links_from, op_at, keys_at, into_seq, width_at}
+use Rattle.flow_graph.specs.Charts.{Chart, link_at, links_into, links_from, op_at, keys_at, parts_of, first_fields, into_seq}
 use Rattle.flow_graph.specs.FlowShape.{IsShape, ForwardOrder}
+use Rattle.flow_graph.specs.Fitting.{FitsFields, KeepsFields, PassesFields}
+use Rattle.flow_graph.specs.RowRules.{row_rule}
 use Rattle.flow_graph.specs.Runs.{arranged_if}
 use Rattle.flow_rules.specs.Verdicts.{choice_at}
-use Rattle.list_run.specs.Held.{sent_by, sent_on, got_on}
-use Rattle.list_run.specs.Made.{made}
+use Rattle.list_run.specs.Found.{found_in}
+use Rattle.list_run.specs.Held.{sent_by, sent_from, sent_on, got_on}
+use Rattle.list_run.specs.Made.{made, made_for}
 use Rattle.list_run.specs.Routed.{Joins, routed}
-use Rattle.list_run.specs.Runnable.{degree_at, first_into, IsBuilt, IsRow, IsRunnable, Passes}
+use Rattle.list_run.specs.Runnable.{degree_at, first_into, IsBuilt, IsRunnable}
 use Rattle.list_run.specs.Turns.{lists_after, got_in, sent_in}
 use Rattle.list_run.proofs.Links.{in_from, from_in}
 use Rattle.list_run.proofs.Inputs.{first_member, ports_at, only_input}
 use Rattle.list_run.proofs.Ordered.{in_either, order_below, ordered}
-use Rattle.list_run.proofs.RowsKept.{Each, made_all, map_each, delivered_all}
+use Rattle.list_run.proofs.RowsKept.{Each, made_all, map_each, work_each, delivered_all}
 use Rattle.list_run.proofs.Routes.{routed_long}
 
 -- Members of what is asked of all.
@@ -36,13 +41,30 @@ Fed (kind.Import file schema delim fixed reject) P = Unit {0}
 Fed k P = P
 
 -- what is sent depends on what came at the input, and for an import on what is given
-pub same_sent : (c : Chart) (o : ℕ) (k : OpKind) → IsBuilt c o k → (keys : List (List Key)) (got have : List (List Row)) (given rows : List Row) → Fed k (got ≡ have) → given ≡ rows → sent_by k keys got given ≡ sent_by k keys have rows
-same_sent c o (kind.Import file schema delim fixed reject) b keys got have given rows e f = ap (λ r. r ∷ []) f
-same_sent c o (kind.Export file delim fixed) b keys got have given rows e f = ap (map (made (kind.Export file delim fixed) keys)) e
-same_sent c o kind.Copy b keys got have given rows e f = ap (map (made kind.Copy keys)) e
-same_sent c o (kind.Tsort key) b keys got have given rows e f = ap (map (made (kind.Tsort key) keys)) e
-same_sent c o (kind.Remdup key last) b keys got have given rows e f = ap (map (made (kind.Remdup key last) keys)) e
-same_sent c o k b keys got have given rows e f = absurd b
+pub same_sent : (c : Chart) (o : ℕ) (k : OpKind) → IsBuilt c o k → (n : ℕ) (parts : OpParts) (q : ℕ) (got have : List (List Row)) (given rows : List Row) → Fed k (got ≡ have) → given ≡ rows → sent_by n k parts q got given ≡ sent_by n k parts q have rows
+same_sent c o (kind.Import file schema delim fixed reject) b n parts q got have given rows e f = ap (λ r. r ∷ []) f
+same_sent c o (kind.Export file delim fixed) b n parts q got have given rows e f = ap (map (made_for n (kind.Export file delim fixed) parts q)) e
+same_sent c o kind.Copy b n parts q got have given rows e f = ap (map (made_for n kind.Copy parts q)) e
+same_sent c o (kind.Filter test reject) b n parts q got have given rows e f = ap (map (made_for n (kind.Filter test reject) parts q)) e
+same_sent c o (kind.Transform set reject) b n parts q got have given rows e f = ap (map (made_for n (kind.Transform set reject) parts q)) e
+same_sent c o (kind.Modify keep drop rename) b n parts q got have given rows e f = ap (map (made_for n (kind.Modify keep drop rename) parts q)) e
+same_sent c o (kind.Switch on cases reject) b n parts q got have given rows e f = ap (map (made_for n (kind.Switch on cases reject) parts q)) e
+same_sent c o (kind.Tsort key) b n parts q got have given rows e f = ap (map (made_for n (kind.Tsort key) parts q)) e
+same_sent c o (kind.Remdup key last) b n parts q got have given rows e f = ap (map (made_for n (kind.Remdup key last) parts q)) e
+same_sent c o k b n parts q got have given rows e f = absurd b
+
+-- and so does what is found
+pub same_found : (c : Chart) (o : ℕ) (k : OpKind) → IsBuilt c o k → (n : ℕ) (parts : OpParts) (got have : List (List Row)) → Fed k (got ≡ have) → found_in n k parts got ≡ found_in n k parts have
+same_found c o (kind.Import file schema delim fixed reject) b n parts got have e = refl
+same_found c o (kind.Export file delim fixed) b n parts got have e = refl
+same_found c o kind.Copy b n parts got have e = refl
+same_found c o (kind.Filter test reject) b n parts got have e = ap (found_in n (kind.Filter test reject) parts) e
+same_found c o (kind.Transform set reject) b n parts got have e = ap (found_in n (kind.Transform set reject) parts) e
+same_found c o (kind.Modify keep drop rename) b n parts got have e = ap (found_in n (kind.Modify keep drop rename) parts) e
+same_found c o (kind.Switch on cases reject) b n parts got have e = ap (found_in n (kind.Switch on cases reject) parts) e
+same_found c o (kind.Tsort key) b n parts got have e = refl
+same_found c o (kind.Remdup key last) b n parts got have e = refl
+same_found c o k b n parts got have e = absurd b
 
 pub fed_as : (k : OpKind) (P Q : Type 0) → (P → Q) → Fed k P → Fed k Q
 fed_as (kind.Import file schema delim fixed reject) P Q f h = tt
@@ -71,6 +93,10 @@ pub input_seen : (c : Chart) (o : ℕ) (k : OpKind) → IsShape c → o < length
 input_seen c o (kind.Import file schema delim fixed reject) shape m e b seen lies = tt
 input_seen c o (kind.Export file delim fixed) shape m e b seen lies = lies_in (links_into c o) seen (first_into c o) lies (first_member (links_into c o) (ports_at c shape o m (kind.Export file delim fixed) e))
 input_seen c o kind.Copy shape m e b seen lies = lies_in (links_into c o) seen (first_into c o) lies (first_member (links_into c o) (ports_at c shape o m kind.Copy e))
+input_seen c o (kind.Filter test reject) shape m e b seen lies = lies_in (links_into c o) seen (first_into c o) lies (first_member (links_into c o) (ports_at c shape o m (kind.Filter test reject) e))
+input_seen c o (kind.Transform set reject) shape m e b seen lies = lies_in (links_into c o) seen (first_into c o) lies (first_member (links_into c o) (ports_at c shape o m (kind.Transform set reject) e))
+input_seen c o (kind.Modify keep drop rename) shape m e b seen lies = lies_in (links_into c o) seen (first_into c o) lies (first_member (links_into c o) (ports_at c shape o m (kind.Modify keep drop rename) e))
+input_seen c o (kind.Switch on cases reject) shape m e b seen lies = lies_in (links_into c o) seen (first_into c o) lies (first_member (links_into c o) (ports_at c shape o m (kind.Switch on cases reject) e))
 input_seen c o (kind.Tsort key) shape m e b seen lies = lies_in (links_into c o) seen (first_into c o) lies (first_member (links_into c o) (ports_at c shape o m (kind.Tsort key) e))
 input_seen c o (kind.Remdup key last) shape m e b seen lies = lies_in (links_into c o) seen (first_into c o) lies (first_member (links_into c o) (ports_at c shape o m (kind.Remdup key last) e))
 input_seen c o k shape m e b seen lies = absurd b
@@ -89,9 +115,9 @@ next_list c nodes given k l = refl
 -- one more turn for what is sent
 pub sent_again : (c : Chart) (o l : ℕ) (got have : ℕ → List (List Row)) (given : ℕ → List Row) → (link_at c l).from ≡ o → IsBuilt c o (op_at c o).kind → Fed (op_at c o).kind (got (first_into c o) ≡ have (first_into c o)) → sent_on c got given l ≡ sent_on c have given l
 sent_again c o l got have given e b f =
-    ap (λ p. sent_by (op_at c p).kind (keys_at c p) (got (first_into c p)) (given l)) e
-    ∙ same_sent c o (op_at c o).kind b (keys_at c o) (got (first_into c o)) (have (first_into c o)) (given l) (given l) f refl
-    ∙ sym (ap (λ p. sent_by (op_at c p).kind (keys_at c p) (have (first_into c p)) (given l)) e)
+    ap (λ p. sent_from c l p (got (first_into c p)) (given l)) e
+    ∙ same_sent c o (op_at c o).kind b o (parts_of c o) (link_at c l).out (got (first_into c o)) (have (first_into c o)) (given l) (given l) f refl
+    ∙ sym (ap (λ p. sent_from c l p (have (first_into c p)) (given l)) e)
 
 settled_next : (c : Chart) (nodes : ℕ) (given : List (List Row)) (m o l : ℕ) → (link_at c l).from ≡ o → IsBuilt c o (op_at c o).kind → Fed (op_at c o).kind (Settled c nodes given m (first_into c o)) → Settled c nodes given (suc m) l
 settled_next c nodes given m o l e b f zero k a d = absurd (omega (arith, a))
@@ -125,36 +151,58 @@ all_settled c nodes given shape m seen (o ∷ order) b f s l k i = go i (λ j. a
 pub got_is : (c : Chart) (nodes : ℕ) (given : List (List Row)) → IsShape c → Built c c.order → (l : ℕ) → l < length c.flow.links → IsIn (link_at c l).from c.order → got_in c nodes given l ≡ got_on c nodes l (sent_in c nodes given l)
 got_is c nodes given shape b l m i = all_settled c nodes given shape 0 [] c.order b shape.order.forward (λ p q. absurd q) l m i (length c.order) (suc (length c.order)) (omega arith) (omega arith) ∙ next_list c nodes given (length c.order) l
 
+-- the fields of a link
+abbrev pub fields_at : Chart → ℕ → List Field
+fields_at c l = get_or c.schemas l []
+
 -- partitions and rows as they should be
 abbrev pub GotFits : Chart → ℕ → List (List Row) → ℕ → Type 0
-GotFits c nodes given l = (length (got_in c nodes given l) ≡ degree_at c nodes (link_at c l).to) × Each (IsRow (width_at c l)) (got_in c nodes given l)
+GotFits c nodes given l = (length (got_in c nodes given l) ≡ degree_at c nodes (link_at c l).to) × Each (FitsFields (fields_at c l)) (got_in c nodes given l)
 
 abbrev pub SentFits : Chart → ℕ → List (List Row) → ℕ → Type 0
-SentFits c nodes given l = (length (sent_in c nodes given l) ≡ degree_at c nodes (link_at c l).from) × Each (IsRow (width_at c l)) (sent_in c nodes given l)
+SentFits c nodes given l = (length (sent_in c nodes given l) ≡ degree_at c nodes (link_at c l).from) × Each (FitsFields (fields_at c l)) (sent_in c nodes given l)
+
+-- what comes at an operator's input
+abbrev CameFits : Chart → ℕ → ℕ → List (List Row) → Type 0
+CameFits c nodes o got = (length got ≡ degree_at c nodes (link_at c (first_into c o)).to) × Each (FitsFields (first_fields c o)) got
+
+-- and what the operator puts on a link
+abbrev GivenFits : Chart → ℕ → ℕ → ℕ → List (List Row) → Type 0
+GivenFits c nodes o l sent = (length sent ≡ degree_at c nodes o) × Each (FitsFields (fields_at c l)) sent
 
 -- of what an operator makes
-made_fits : (c : Chart) (nodes : ℕ) (o l : ℕ) (k : OpKind) (keys : List (List Key)) (got : List (List Row)) → Passes c o → IsIn l (links_from c o) → (link_at c (first_into c o)).to ≡ o →
-    (length got ≡ degree_at c nodes (link_at c (first_into c o)).to) × Each (IsRow (width_at c (first_into c o))) got → (length (map (made k keys) got) ≡ degree_at c nodes o) × Each (IsRow (width_at c l)) (map (made k keys) got)
+made_fits : (c : Chart) (nodes : ℕ) (o l : ℕ) (k : OpKind) (keys : List (List Key)) (got : List (List Row)) → PassesFields c o → IsIn l (links_from c o) → (link_at c (first_into c o)).to ≡ o → CameFits c nodes o got → GivenFits c nodes o l (map (made k keys) got)
 made_fits c nodes o l k keys got passes i to h = (
   length-map got (made k keys) ∙ h.0 ∙ ap (degree_at c nodes) to,
-  subst (λ w. Each (IsRow w) (map (made k keys) got)) (sym (passes l i)) (map_each (IsRow (width_at c (first_into c o))) (made k keys) (made_all (IsRow (width_at c (first_into c o))) k keys) got h.1),
+  subst (λ fs. Each (FitsFields fs) (map (made k keys) got)) (sym (passes l i)) (map_each (FitsFields (first_fields c o)) (made k keys) (made_all (FitsFields (first_fields c o)) k keys) got h.1),
 )
 
-kind_fits : (c : Chart) (nodes : ℕ) (o l : ℕ) (k : OpKind) → IsShape c → o < length c.flow.ops → (op_at c o).kind ≡ k → IsBuilt c o k → (keys : List (List Key)) (got : List (List Row)) (rows : List Row) → IsIn l (links_from c o) → AllByRecursion (IsRow (width_at c l)) rows →
-    Fed k ((length got ≡ degree_at c nodes (link_at c (first_into c o)).to) × Each (IsRow (width_at c (first_into c o))) got) → (length (sent_by k keys got rows) ≡ degree_at c nodes o) × Each (IsRow (width_at c l)) (sent_by k keys got rows)
-kind_fits c nodes o l (kind.Import file schema delim fixed reject) shape m e b keys got rows i r h = (sym (ap (λ s. cond s 1 nodes) b), (r, tt))
-kind_fits c nodes o l (kind.Export file delim fixed) shape m e b keys got rows i r h = absurd (subst (IsIn l) b i)
-kind_fits c nodes o l kind.Copy shape m e b keys got rows i r h = made_fits c nodes o l kind.Copy keys got b i (only_input c o (ports_at c shape o m kind.Copy e)).1 h
-kind_fits c nodes o l (kind.Tsort key) shape m e b keys got rows i r h = made_fits c nodes o l (kind.Tsort key) keys got b i (only_input c o (ports_at c shape o m (kind.Tsort key) e)).1 h
-kind_fits c nodes o l (kind.Remdup key last) shape m e b keys got rows i r h = made_fits c nodes o l (kind.Remdup key last) keys got b i (only_input c o (ports_at c shape o m (kind.Remdup key last) e)).1 h
-kind_fits c nodes o l k shape m e b keys got rows i r h = absurd b
+work_fits : (c : Chart) (nodes : ℕ) (o l : ℕ) (k : OpKind) (got : List (List Row)) → (op_at c o).kind ≡ k → KeepsFields c o → IsIn l (links_from c o) → (link_at c (first_into c o)).to ≡ o → CameFits c nodes o got →
+    GivenFits c nodes o l (map (λ rows. flat_map ((row_rule o k (parts_of c o)).rows (link_at c l).out) rows) got)
+work_fits c nodes o l k got e keeps i to h = (
+  length-map got (λ rows. flat_map ((row_rule o k (parts_of c o)).rows (link_at c l).out) rows) ∙ h.0 ∙ ap (degree_at c nodes) to,
+  work_each (FitsFields (first_fields c o)) (FitsFields (fields_at c l)) ((row_rule o k (parts_of c o)).rows (link_at c l).out) (λ r f. subst (λ k. AllByRecursion (FitsFields (fields_at c l)) ((row_rule o k (parts_of c o)).rows (link_at c l).out r)) e (keeps l i r f)) got h.1,
+)
 
-pub sent_fits : (c : Chart) (nodes : ℕ) (given : List (List Row)) (o l : ℕ) → IsShape c → o < length c.flow.ops → IsBuilt c o (op_at c o).kind → l < length c.flow.links → (link_at c l).from ≡ o → AllByRecursion (IsRow (width_at c l)) (get_or given l []) →
+kind_fits : (c : Chart) (nodes : ℕ) (o l : ℕ) (k : OpKind) → IsShape c → o < length c.flow.ops → (op_at c o).kind ≡ k → IsBuilt c o k → (got : List (List Row)) (rows : List Row) → IsIn l (links_from c o) → AllByRecursion (FitsFields (fields_at c l)) rows →
+    Fed k (CameFits c nodes o got) → GivenFits c nodes o l (sent_by o k (parts_of c o) (link_at c l).out got rows)
+kind_fits c nodes o l (kind.Import file schema delim fixed reject) shape m e b got rows i r h = (sym (ap (λ s. cond s 1 nodes) b), (r, tt))
+kind_fits c nodes o l (kind.Export file delim fixed) shape m e b got rows i r h = absurd (subst (IsIn l) b i)
+kind_fits c nodes o l kind.Copy shape m e b got rows i r h = made_fits c nodes o l kind.Copy (keys_at c o) got b i (only_input c o (ports_at c shape o m kind.Copy e)).1 h
+kind_fits c nodes o l (kind.Filter test reject) shape m e b got rows i r h = work_fits c nodes o l (kind.Filter test reject) got e b i (only_input c o (ports_at c shape o m (kind.Filter test reject) e)).1 h
+kind_fits c nodes o l (kind.Transform set reject) shape m e b got rows i r h = work_fits c nodes o l (kind.Transform set reject) got e b i (only_input c o (ports_at c shape o m (kind.Transform set reject) e)).1 h
+kind_fits c nodes o l (kind.Modify keep drop rename) shape m e b got rows i r h = work_fits c nodes o l (kind.Modify keep drop rename) got e b i (only_input c o (ports_at c shape o m (kind.Modify keep drop rename) e)).1 h
+kind_fits c nodes o l (kind.Switch on cases reject) shape m e b got rows i r h = work_fits c nodes o l (kind.Switch on cases reject) got e b i (only_input c o (ports_at c shape o m (kind.Switch on cases reject) e)).1 h
+kind_fits c nodes o l (kind.Tsort key) shape m e b got rows i r h = made_fits c nodes o l (kind.Tsort key) (keys_at c o) got b i (only_input c o (ports_at c shape o m (kind.Tsort key) e)).1 h
+kind_fits c nodes o l (kind.Remdup key last) shape m e b got rows i r h = made_fits c nodes o l (kind.Remdup key last) (keys_at c o) got b i (only_input c o (ports_at c shape o m (kind.Remdup key last) e)).1 h
+kind_fits c nodes o l k shape m e b got rows i r h = absurd b
+
+pub sent_fits : (c : Chart) (nodes : ℕ) (given : List (List Row)) (o l : ℕ) → IsShape c → o < length c.flow.ops → IsBuilt c o (op_at c o).kind → l < length c.flow.links → (link_at c l).from ≡ o → AllByRecursion (FitsFields (fields_at c l)) (get_or given l []) →
     Fed (op_at c o).kind (GotFits c nodes given (first_into c o)) → SentFits c nodes given l
 sent_fits c nodes given o l shape m b k e r h =
-    let is = ap (λ p. sent_by (op_at c p).kind (keys_at c p) (got_in c nodes given (first_into c p)) (get_or given l [])) e in
-    let f = kind_fits c nodes o l (op_at c o).kind shape m refl b (keys_at c o) (got_in c nodes given (first_into c o)) (get_or given l []) (from_in c o l k e) r h in
-    (ap length is ∙ f.0 ∙ ap (degree_at c nodes) (sym e), subst (λ (s : List (List Row)). Each (IsRow (width_at c l)) s) (sym is) f.1)
+    let is = ap (λ p. sent_from c l p (got_in c nodes given (first_into c p)) (get_or given l [])) e in
+    let f = kind_fits c nodes o l (op_at c o).kind shape m refl b (got_in c nodes given (first_into c o)) (get_or given l []) (from_in c o l k e) r h in
+    (ap length is ∙ f.0 ∙ ap (degree_at c nodes) (sym e), subst (λ (s : List (List Row)). Each (FitsFields (fields_at c l)) s) (sym is) f.1)
 
 pub got_fits : (c : Chart) (nodes : ℕ) (given : List (List Row)) (l : ℕ) → got_in c nodes given l ≡ got_on c nodes l (sent_in c nodes given l) →
     Joins (into_seq c l) (choice_at c l).method (degree_at c nodes (link_at c l).from) (degree_at c nodes (link_at c l).to) → SentFits c nodes given l → GotFits c nodes given l
@@ -163,7 +211,7 @@ got_fits c nodes given l is j f =
     let sent = sent_in c nodes given l in
     let j' = subst (λ (k : ℕ). Joins (into_seq c l) (choice_at c l).method k n) (sym f.0) j in (
       ap length is ∙ length-map (routed (choice_at c l).method n sent) (arranged_if (choice_at c l).sort) ∙ routed_long (into_seq c l) (choice_at c l).method n sent j',
-      subst (λ (g : List (List Row)). Each (IsRow (width_at c l)) g) (sym is) (delivered_all (IsRow (width_at c l)) (choice_at c l) n sent f.1),
+      subst (λ (g : List (List Row)). Each (FitsFields (fields_at c l)) g) (sym is) (delivered_all (FitsFields (fields_at c l)) (choice_at c l) n sent f.1),
     )
 
 -- what is asked of a flow
@@ -190,7 +238,7 @@ fits_from c choices nodes given r seen (o ∷ order) b f s l k i = go i (λ j. f
 
     here : (p : ℕ) → p < length c.flow.links → (link_at c p).from ≡ o → Fits c nodes given p
     here p m e =
-        let sent = sent_fits c nodes given o p r.shape b.0.0 b.0.1 m e (recursion_from_All (IsRow (width_at c p)) (get_or given p []) (r.run.rows p m)) input in
+        let sent = sent_fits c nodes given o p r.shape b.0.0 b.0.1 m e (recursion_from_All (FitsFields (fields_at c p)) (get_or given p []) (r.run.rows p m)) input in
         (sent, got_fits c nodes given p (got_means c choices nodes given r p m) (r.run.joins p m) sent)
 
     split : (p : ℕ) → (IsIn p (links_from c o) ⊎ IsIn p seen) → Fits c nodes given p

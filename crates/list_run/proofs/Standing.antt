@@ -1,27 +1,36 @@
 -- What stands after some turns stands after one more.
-use Rattle.std.proofs.Common.{◌≡◌, ◌≢◌, ◌⊎◌, inl, inr, ℕ, zero, suc, ◌+◌, ◌<◌, Bool, refl, sym, ap, ◌∙◌, subst, List, [], ◌∷◌, ◌++◌, length, take, get_or, All, Option, Some, None, arith}
-use Rattle.std.specs.List.{AllByRecursion}
+use Rattle.std.proofs.Common.{◌≡◌, ◌≢◌, ◌⊎◌, inl, inr, ℕ, zero, suc, ◌+◌, ◌<◌, Bool, refl, sym, ap, ◌∙◌, subst, List, [], ◌∷◌, ◌++◌, length, take, get_or, All, Option, Some, None, append-nil, arith}
+use Rattle.std.specs.List.{AllByRecursion, flat_map}
+use Rattle.std.proofs.lemmas.Grind.{flat_map-append}
 use Rattle.std.proofs.lemmas.List.Elements.{All-from_recursion}
 use Rattle.ds_schema.specs.Rows.{InWidth}
+use Rattle.ds_schema.specs.declared.schema.Field.{Field}
+use Rattle.op_base.specs.declared.fault.Fault.{Fault}
 use Rattle.op_base.specs.Columns.{Row, IsIn, Lies, all_columns}
+use Rattle.op_row.proofs.Transformed.{fits_length}
 use Rattle.flow_graph.specs.declared.op_kind.OpKind.{OpKind}
 use Rattle.flow_graph.specs.declared.op_kind.OpKind.TheVariants as kind
 use Rattle.flow_graph.specs.declared.route.Route.{Route}
 use Rattle.flow_graph.specs.declared.route.Route.TheVariants as route
 use Rattle.flow_graph.specs.declared.route.Choice.{Choice}
-use Rattle.flow_graph.specs.Charts.{Chart, link_at, links_into, links_from, op_at, keys_at, into_seq, width_at}
-use Rattle.flow_graph.specs.FlowShape.{ForwardOrder, WrittenFits}
+use Rattle.flow_graph.specs.Charts.{Chart, link_at, links_into, links_from, op_at, parts_of, into_seq, width_at}
+use Rattle.flow_graph.specs.Fitting.{FitsFields}
+use Rattle.flow_graph.specs.FlowShape.{IsShape, ForwardOrder, WrittenFits}
 use Rattle.flow_graph.specs.Runs.{RouteFits}
 use Rattle.flow_rules.specs.Verdicts.{choice_at, written_or_same}
 use Rattle.list_run.specs.declared.held.Held.{Held}
-use Rattle.list_run.specs.Held.{MaySend, Steps, sent_by, sent_on, got_on}
+use Rattle.list_run.specs.Found.{Tallies}
+use Rattle.list_run.specs.Held.{CanTurn, MaySend, Steps, found_at, sent_from, sent_on, got_on}
 use Rattle.list_run.specs.Routed.{Joins, SuitsRoute}
-use Rattle.list_run.specs.Runnable.{degree_at, first_into, row_count, IsExport, IsRow, IsRunnable}
-use Rattle.list_run.specs.Turns.{HadTurn, Stands, got_in, sent_in}
+use Rattle.list_run.specs.Runnable.{degree_at, first_into, row_count, IsExport, IsRunnable}
+use Rattle.list_run.specs.Turns.{HadTurn, Stands, found_after, got_in, sent_in}
+use Rattle.list_run.specs.Worked.{CanWork, WorksByRow}
+use Rattle.list_run.proofs.Inputs.{only_input, ports_at}
+use Rattle.list_run.proofs.Suiting.{can_work}
 use Rattle.list_run.proofs.Links.{all_in, in_from, in_into}
-use Rattle.list_run.proofs.Ordered.{in_either, not_before, turn_more, turn_before, turn_now}
+use Rattle.list_run.proofs.Ordered.{in_either, not_before, order_front, turn_more, turn_before, turn_now}
 use Rattle.list_run.proofs.RowsKept.{Each}
-use Rattle.list_run.proofs.Sizes.{Fed, fed_as, lies_in, same_sent, got_means, all_fit, input_seen}
+use Rattle.list_run.proofs.Sizes.{Fed, fed_as, lies_in, same_found, same_sent, got_means, all_fit, input_seen}
 
 -- the inputs of the n-th operator leave operators that had their turns
 forward_at : (c : Chart) (seen order : List ℕ) → ForwardOrder c seen order → (n : ℕ) → n < length order → (l : ℕ) → IsIn l (links_into c (get_or order n 0)) → IsIn l seen ⊎ IsIn (link_at c l).from (take n order)
@@ -63,33 +72,33 @@ pub held_sent : (c : Chart) (choices : List Choice) (nodes : ℕ) (given : List 
     (l : ℕ) → l < length c.flow.links → (link_at c l).from ≡ get_or c.order n 0 → sent_on c (λ i. get_or held.waiting.items i []) (λ i. get_or rest i []) l ≡ sent_in c nodes given l
 held_sent c choices nodes given n rest held r m b stands l k e =
     let o = get_or c.order n 0 in
-    ap (λ p. sent_by (op_at c p).kind (keys_at c p) (get_or held.waiting.items (first_into c p) []) (get_or rest l [])) e
-    ∙ same_sent c o (op_at c o).kind (r.run.built o b) (keys_at c o) (get_or held.waiting.items (first_into c o) []) (got_in c nodes given (first_into c o)) (get_or rest l []) (get_or given l []) (waits_for c choices nodes given n rest held r m b stands)
+    ap (λ p. sent_from c l p (get_or held.waiting.items (first_into c p) []) (get_or rest l [])) e
+    ∙ same_sent c o (op_at c o).kind (r.run.built o b) o (parts_of c o) (link_at c l).out (get_or held.waiting.items (first_into c o) []) (got_in c nodes given (first_into c o)) (get_or rest l []) (get_or given l []) (waits_for c choices nodes given n rest held r m b stands)
     (stands.rest_is l k (λ h. not_before c r.shape.order n m (subst (HadTurn c n) e h)))
-    ∙ sym (ap (λ p. sent_by (op_at c p).kind (keys_at c p) (got_in c nodes given (first_into c p)) (get_or given l [])) e)
+    ∙ sym (ap (λ p. sent_from c l p (got_in c nodes given (first_into c p)) (get_or given l [])) e)
 
 -- rows suit the routes that are written
-suits_row : (m : Route) (w : ℕ) → RouteFits w m → (r : Row) → IsRow w r → SuitsRoute m r
-suits_row route.Same w f r h = tt
-suits_row route.RoundRobin w f r h = tt
-suits_row route.Entire w f r h = tt
-suits_row (route.Hash K) w f r h = (All-from_recursion (InWidth r) K (columns K f), h.1)
+suits_row : (m : Route) (fields : List Field) → RouteFits (length fields) m → (r : Row) → FitsFields fields r → SuitsRoute m r
+suits_row route.Same fields f r h = tt
+suits_row route.RoundRobin fields f r h = tt
+suits_row route.Entire fields f r h = tt
+suits_row (route.Hash K) fields f r h = (All-from_recursion (InWidth r) K (columns K f), h.1)
   where
-    columns : (cs : List ℕ) → Lies cs (all_columns w) → AllByRecursion (InWidth r) cs
+    columns : (cs : List ℕ) → Lies cs (all_columns (length fields)) → AllByRecursion (InWidth r) cs
     columns [] l = tt
-    columns (x ∷ cs) l = (subst (λ n. x < n) (sym h.0) (all_in w x l.0), columns cs l.1)
-suits_row (route.Modulus x) w f r h = tt
-suits_row route.Any w f r h = tt
-suits_row route.Ordered w f r h = tt
-suits_row (route.Merge keys) w f r h = tt
+    columns (x ∷ cs) l = (subst (λ n. x < n) (fits_length fields r h.0) (all_in (length fields) x l.0), columns cs l.1)
+suits_row (route.Modulus x) fields f r h = tt
+suits_row route.Any fields f r h = tt
+suits_row route.Ordered fields f r h = tt
+suits_row (route.Merge keys) fields f r h = tt
 
-suits_list : (m : Route) (w : ℕ) → RouteFits w m → (rows : List Row) → AllByRecursion (IsRow w) rows → AllByRecursion (SuitsRoute m) rows
-suits_list m w f [] h = tt
-suits_list m w f (r ∷ rows) h = (suits_row m w f r h.0, suits_list m w f rows h.1)
+suits_list : (m : Route) (fields : List Field) → RouteFits (length fields) m → (rows : List Row) → AllByRecursion (FitsFields fields) rows → AllByRecursion (SuitsRoute m) rows
+suits_list m fields f [] h = tt
+suits_list m fields f (r ∷ rows) h = (suits_row m fields f r h.0, suits_list m fields f rows h.1)
 
-suits_lists : (m : Route) (w : ℕ) → RouteFits w m → (lists : List (List Row)) → Each (IsRow w) lists → AllByRecursion (All (SuitsRoute m)) lists
-suits_lists m w f [] h = tt
-suits_lists m w f (rows ∷ lists) h = (All-from_recursion (SuitsRoute m) rows (suits_list m w f rows h.0), suits_lists m w f lists h.1)
+suits_lists : (m : Route) (fields : List Field) → RouteFits (length fields) m → (lists : List (List Row)) → Each (FitsFields fields) lists → AllByRecursion (All (SuitsRoute m)) lists
+suits_lists m fields f [] h = tt
+suits_lists m fields f (rows ∷ lists) h = (All-from_recursion (SuitsRoute m) rows (suits_list m fields f rows h.0), suits_lists m fields f lists h.1)
 
 route_fits : (seq : Bool) (w : ℕ) (m : Option Route) → WrittenFits seq w m → RouteFits w (written_or_same m)
 route_fits seq w None f = tt
@@ -110,12 +119,42 @@ may_send c choices nodes given n rest held r m b stands = λ l k e.
     let P : List (List Row) → Type 0 = λ s. Joins (into_seq c l) (choice_at c l).method (length s) (degree_at c nodes (link_at c l).to) × All (All (SuitsRoute (choice_at c l).method)) s in
     subst P (sym (held_sent c choices nodes given n rest held r m b stands l k e)) (
       subst (λ d. Joins (into_seq c l) (choice_at c l).method d (degree_at c nodes (link_at c l).to)) (sym fits.0) (r.run.joins l k),
-      All-from_recursion (All (SuitsRoute (choice_at c l).method)) (sent_in c nodes given l) (suits_lists (choice_at c l).method (width_at c l) route (sent_in c nodes given l) fits.1),
+      All-from_recursion (All (SuitsRoute (choice_at c l).method)) (sent_in c nodes given l) (suits_lists (choice_at c l).method (get_or c.schemas l []) route (sent_in c nodes given l) fits.1),
     )
+
+-- what waits for an operator by rows suits it
+work_fed : (k : OpKind) (P : Type 0) → WorksByRow k → Fed k P → P
+work_fed (kind.Filter test reject) P w h = h
+work_fed (kind.Transform set reject) P w h = h
+work_fed (kind.Modify keep drop rename) P w h = h
+work_fed (kind.Switch on cases reject) P w h = h
+work_fed k P w h = absurd w
+
+one_input : (c : Chart) (o : ℕ) (k : OpKind) → IsShape c → o < length c.flow.ops → (op_at c o).kind ≡ k → WorksByRow k → length (links_into c o) ≡ 1
+one_input c o (kind.Filter test reject) shape m e w = ports_at c shape o m (kind.Filter test reject) e
+one_input c o (kind.Transform set reject) shape m e w = ports_at c shape o m (kind.Transform set reject) e
+one_input c o (kind.Modify keep drop rename) shape m e w = ports_at c shape o m (kind.Modify keep drop rename) e
+one_input c o (kind.Switch on cases reject) shape m e w = ports_at c shape o m (kind.Switch on cases reject) e
+one_input c o k shape m e w = absurd w
+
+pub can_turn : (c : Chart) (choices : List Choice) (nodes : ℕ) (given : List (List Row)) (n : ℕ) (rest : List (List Row)) (held : Held) → IsRunnable c choices nodes given → n < length c.order → get_or c.order n 0 < length c.flow.ops → Stands c nodes given n rest held →
+    CanTurn (op_at c (get_or c.order n 0)).kind (parts_of c (get_or c.order n 0)) (get_or held.waiting.items (first_into c (get_or c.order n 0)) [])
+can_turn c choices nodes given n rest held r m b stands = λ w.
+    let o = get_or c.order n 0 in
+    let k = (op_at c o).kind in
+    let there = only_input c o (one_input c o k r.shape b refl w) in
+    let waits = work_fed k _ w (waits_for c choices nodes given n rest held r m b stands) in
+    subst (CanWork k (parts_of c o)) (sym waits) (can_work c o k r.shape b refl w (got_in c nodes given (first_into c o)) (all_fit c choices nodes given r (first_into c o) there.0).1.1)
 
 export_fed : (k : OpKind) (P : Type 0) → IsExport k → Fed k P → P
 export_fed (kind.Export file delim fixed) P e h = h
 export_fed k P e h = absurd e
+
+-- what one more operator finds
+found_more : (c : Chart) (nodes : ℕ) (given : List (List Row)) (n : ℕ) → n < length c.order → found_after c nodes given (n + 1) ≡ found_after c nodes given n ++ found_at c (get_or c.order n 0) (got_in c nodes given (first_into c (get_or c.order n 0)))
+found_more c nodes given n m =
+    let F : ℕ → List Fault = λ o. found_at c o (got_in c nodes given (first_into c o)) in
+    ap (flat_map F) (order_front c.order n m) ∙ flat_map-append F (take n c.order) (get_or c.order n 0 ∷ []) ∙ ap (λ t. flat_map F (take n c.order) ++ t) (append-nil (F (get_or c.order n 0)))
 
 -- one more turn
 pub stands_next : (c : Chart) (choices : List Choice) (nodes : ℕ) (given : List (List Row)) (n : ℕ) (rest after : List (List Row)) (held new : Held) → IsRunnable c choices nodes given → n < length c.order → get_or c.order n 0 < length c.flow.ops → Stands c nodes given n rest held →
@@ -126,8 +165,14 @@ stands_next c choices nodes given n rest after held new r m b stands steps = rec
   counts = λ l k f. counted l k (turn_more c n (link_at c l).from m f);
   rest_is = λ l k f. steps.kept_given l k (λ e. f (subst (HadTurn c (n + 1)) (sym e) (turn_now c n m))) ∙ stands.rest_is l k (λ h. f (turn_before c n (link_at c l).from m h));
   sinks = λ p h e. kept p e (turn_more c n p m h);
+  found = subst (λ fs. Tallies fs new.tally) (sym (found_more c nodes given n m)) (subst (λ fs. Tallies (found_after c nodes given n ++ fs) new.tally) found (steps.found (found_after c nodes given n) stands.found));
 }
   where
+    found : found_at c (get_or c.order n 0) (get_or held.waiting.items (first_into c (get_or c.order n 0)) []) ≡ found_at c (get_or c.order n 0) (got_in c nodes given (first_into c (get_or c.order n 0)))
+    found =
+        let o = get_or c.order n 0 in
+        same_found c o (op_at c o).kind (r.run.built o b) o (parts_of c o) (get_or held.waiting.items (first_into c o) []) (got_in c nodes given (first_into c o)) (waits_for c choices nodes given n rest held r m b stands)
+
     other : (p : ℕ) → HadTurn c n p → p ≢ get_or c.order n 0
     other p h e = not_before c r.shape.order n m (subst (HadTurn c n) e h)
 

@@ -1,23 +1,30 @@
 -- Lists on their way: what one operator does with those that are held.
 use Rattle.std.specs.Prelude.{◌≡◌, ◌≢◌, ℕ, ◌<◌, ◌==◌, Bool, true, false, cond, List, [], ◌∷◌, length, map, get_or, set, nat_lt, All}
-use Rattle.ds_schema.specs.declared.key.Key.{Key}
+use Rattle.op_base.specs.declared.fault.Fault.{Fault}
 use Rattle.op_base.specs.Columns.{Row}
 use Rattle.flow_graph.specs.declared.op_kind.OpKind.{OpKind}
 use Rattle.flow_graph.specs.declared.op_kind.OpKind.TheVariants as kind
-use Rattle.flow_graph.specs.Charts.{Chart, link_at, op_at, keys_at, into_seq}
+use Rattle.flow_graph.specs.declared.parts.OpParts.{OpParts}
+use Rattle.flow_graph.specs.Charts.{Chart, link_at, op_at, keys_at, parts_of, into_seq}
 use Rattle.flow_rules.specs.Verdicts.{choice_at}
 use Rattle.list_run.specs.declared.held.Held.{Held}
-use Rattle.list_run.specs.Made.{made}
+use Rattle.list_run.specs.Found.{Grows, found_in}
+use Rattle.list_run.specs.Made.{made, made_for}
 use Rattle.list_run.specs.Routed.{Joins, SuitsRoute, delivered}
 use Rattle.list_run.specs.Runnable.{degree_at, first_into, row_count, IsExport}
+use Rattle.list_run.specs.Worked.{CanWork, WorksByRow, place_of}
 
--- what a link's producer puts on it, of the partitions that came at the producer and of the rows that are given for the link
-abbrev pub sent_by : OpKind → List (List Key) → List (List Row) → List Row → List (List Row)
-sent_by (kind.Import file schema delim fixed reject) keys parts rows = rows ∷ []
-sent_by k keys parts rows = map (made k keys) parts
+-- what the operator with the number o puts on a link that leaves its output q, of the partitions that came at it and of the rows that are given for the link
+abbrev pub sent_by : ℕ → OpKind → OpParts → ℕ → List (List Row) → List Row → List (List Row)
+sent_by o (kind.Import file schema delim fixed reject) parts q lists rows = rows ∷ []
+sent_by o k parts q lists rows = map (made_for o k parts q) lists
+
+-- the same of a link of the flow
+abbrev pub sent_from : Chart → ℕ → ℕ → List (List Row) → List Row → List (List Row)
+sent_from c l o lists rows = sent_by o (op_at c o).kind (parts_of c o) (link_at c l).out lists rows
 
 abbrev pub sent_on : Chart → (ℕ → List (List Row)) → (ℕ → List Row) → ℕ → List (List Row)
-sent_on c got given l = sent_by (op_at c (link_at c l).from).kind (keys_at c (link_at c l).from) (got (first_into c (link_at c l).from)) (given l)
+sent_on c got given l = sent_from c l (link_at c l).from (got (first_into c (link_at c l).from)) (given l)
 
 -- and what comes of it
 abbrev pub got_on : Chart → ℕ → ℕ → List (List Row) → List (List Row)
@@ -37,6 +44,7 @@ pub record Puts (c : Chart) (nodes : ℕ) (takes : ℕ → Bool) (sent : ℕ →
   pub kept : (l : ℕ) → takes l ≡ false → get_or new.waiting.items l [] ≡ get_or old.waiting.items l []
   pub kept_counts : (l : ℕ) → takes l ≡ false → get_or new.counts.items l 0 ≡ get_or old.counts.items l 0
   pub sinks : new.sinks.items ≡ old.sinks.items
+  pub tally : new.tally ≡ old.tally
 
 -- what an operator sends may go on each link that leaves it
 abbrev pub MaySend : Chart → ℕ → ℕ → (ℕ → List (List Row)) → Type 0
@@ -49,12 +57,13 @@ leaves c o l = (link_at c l).from == o
 abbrev pub leaves_but : Chart → ℕ → ℕ → ℕ → Bool
 leaves_but c o last l = cond (l == last) false (leaves c o l)
 
--- what waited at an input is taken, and some links are put
-pub record Moves (c : Chart) (nodes input : ℕ) (takes : ℕ → Bool) (sent : ℕ → List (List Row)) (old new : Held) : Type 0 where
+-- what waited at an input is taken, some faults are found in it, and some links are put
+pub record Moves (c : Chart) (nodes input : ℕ) (takes : ℕ → Bool) (sent : ℕ → List (List Row)) (faults : List Fault) (old new : Held) : Type 0 where
   pub mid : Held
   pub taken : mid.waiting.items ≡ set old.waiting.items input []
   pub counts : mid.counts.items ≡ old.counts.items
   pub sinks : mid.sinks.items ≡ old.sinks.items
+  pub found : Grows old.tally mid.tally faults
   pub puts : Puts c nodes takes sent mid new
 
 -- the links that leave an operator
@@ -64,6 +73,25 @@ outputs c o l = cond (nat_lt l (length c.flow.links)) (leaves c o l) false
 -- what a copy, a tsort or a remdup makes of what waits at its input
 abbrev pub made_at : Chart → ℕ → Held → List (List Row)
 made_at c o held = map (made (op_at c o).kind (keys_at c o)) (get_or held.waiting.items (first_into c o) [])
+
+-- what an operator by rows makes of that for a link
+abbrev pub worked_at : Chart → ℕ → Held → ℕ → List (List Row)
+worked_at c o held l = map (made_for o (op_at c o).kind (parts_of c o) (link_at c l).out) (get_or held.waiting.items (first_into c o) [])
+
+-- and what an operator finds in what comes at its input
+abbrev pub found_at : Chart → ℕ → List (List Row) → List Fault
+found_at c o lists = found_in o (op_at c o).kind (parts_of c o) lists
+
+-- which of some lists a link has, where one list stands for each output, and what that is
+abbrev pub place_on : Chart → ℕ → ℕ → ℕ
+place_on c outs l = place_of outs (link_at c l).out
+
+abbrev pub out_on : Chart → List (List (List Row)) → ℕ → List (List Row)
+out_on c outs l = get_or outs (place_on c (length outs) l) []
+
+-- an operator by rows can work on what comes at its input
+abbrev pub CanTurn : OpKind → OpParts → List (List Row) → Type 0
+CanTurn k parts lists = WorksByRow k → CanWork k parts lists
 
 -- an operator has its turn
 pub record Steps (c : Chart) (nodes o : ℕ) (before after : List (List Row)) (old new : Held) : Type 0 where
@@ -76,3 +104,4 @@ pub record Steps (c : Chart) (nodes o : ℕ) (before after : List (List Row)) (o
   pub kept_given : (l : ℕ) → l < length c.flow.links → (link_at c l).from ≢ o → get_or after l [] ≡ get_or before l []
   pub sink : IsExport (op_at c o).kind → get_or new.sinks.items o [] ≡ get_or old.waiting.items (first_into c o) []
   pub kept_sinks : (p : ℕ) → p ≢ o → get_or new.sinks.items p [] ≡ get_or old.sinks.items p []
+  pub found : Grows old.tally new.tally (found_at c o (get_or old.waiting.items (first_into c o) []))

@@ -1,7 +1,9 @@
 pub mod Dealt
 pub mod Fed
+pub mod Found
 pub mod Made
 pub mod Routed
 pub mod Runnable
 pub mod Held
 pub mod Turns
+pub mod Worked

@@ -1,9 +1,12 @@
 -- The lists of a run on all links, and what is held after some operators' turns.
 use Rattle.std.specs.Prelude.{◌≡◌, ℕ, zero, suc, ◌<◌, List, [], length, get_or, take}
+use Rattle.std.specs.List.{flat_map}
+use Rattle.op_base.specs.declared.fault.Fault.{Fault}
 use Rattle.op_base.specs.Columns.{Row, IsIn}
 use Rattle.flow_graph.specs.Charts.{Chart, link_at, op_at}
 use Rattle.list_run.specs.declared.held.Held.{Held}
-use Rattle.list_run.specs.Held.{HasRoom, sent_on, got_on}
+use Rattle.list_run.specs.Found.{Tallies}
+use Rattle.list_run.specs.Held.{HasRoom, sent_on, got_on, found_at}
 use Rattle.list_run.specs.Runnable.{first_into, row_count, IsExport}
 
 -- what comes on a link after so many turns, where each operator has one at once
@@ -22,6 +25,10 @@ sent_in c nodes given l = sent_on c (got_in c nodes given) (λ i. get_or given i
 abbrev pub HadTurn : Chart → ℕ → ℕ → Type 0
 HadTurn c n o = IsIn o (take n c.order)
 
+-- the faults that the first n operators find, in their order
+abbrev pub found_after : Chart → ℕ → List (List Row) → ℕ → List Fault
+found_after c nodes given n = flat_map (λ o. found_at c o (got_in c nodes given (first_into c o))) (take n c.order)
+
 -- the first n operators have had their turns
 pub record Stands (c : Chart) (nodes : ℕ) (given : List (List Row)) (n : ℕ) (rest : List (List Row)) (held : Held) : Type 0 where
   pub room : HasRoom c held
@@ -29,3 +36,4 @@ pub record Stands (c : Chart) (nodes : ℕ) (given : List (List Row)) (n : ℕ) 
   pub counts : (l : ℕ) → l < length c.flow.links → HadTurn c n (link_at c l).from → get_or held.counts.items l 0 ≡ row_count (sent_in c nodes given l)
   pub rest_is : (l : ℕ) → l < length c.flow.links → (HadTurn c n (link_at c l).from → ⊥) → get_or rest l [] ≡ get_or given l []
   pub sinks : (o : ℕ) → HadTurn c n o → IsExport (op_at c o).kind → get_or held.sinks.items o [] ≡ got_in c nodes given (first_into c o)
+  pub found : Tallies (found_after c nodes given n) held.tally

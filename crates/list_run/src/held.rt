@@ -3,17 +3,19 @@
 ghost use Rattle.std.specs.Prelude.{◌≡◌, ◌<◌, [], length, get_or, set, IfOk};
 
 use crate::lanes::{Partitions, empty_lists};
+use crate::tally::Tally;
 use ds_value::{Items, NoMemory};
 use std::alloc::Global;
 use std::mem;
 
 /// By link, what waits for its consumer, and how many rows were put on it; by operator, what came
-/// at an export.
+/// at an export; and the faults of the operators by rows.
 #[derive(Drop)]
 pub(crate) struct Held {
     pub waiting: Vec<Partitions>,
     pub counts: Vec<u64>,
     pub sinks: Vec<Partitions>,
+    pub tally: Tally,
 }
 
 fn no_counts(alloc: Global, count: usize) -> Result<Vec<u64>, NoMemory>
@@ -28,17 +30,20 @@ fn no_counts(alloc: Global, count: usize) -> Result<Vec<u64>, NoMemory>
 
 impl Held {
     ghost use Rattle.std.specs.Prelude.{IfOk};
+    ghost use Rattle.list_run.specs.Found.{Tallies};
 
     /// Nothing is held yet.
     pub fn new(alloc: Global, links: usize, ops: usize) -> Result<Held, NoMemory>
         ensures waiting { IfOk result (λ held. length held.waiting.items ≡ links) }
         ensures counts { IfOk result (λ held. length held.counts.items ≡ links) }
         ensures sinks { IfOk result (λ held. length held.sinks.items ≡ ops) }
+        ensures tally { IfOk result (λ held. Tallies [] held.tally) }
     {
         Ok(Held {
             waiting: empty_lists(alloc, links)?,
             counts: no_counts(alloc, links)?,
             sinks: empty_lists(alloc, ops)?,
+            tally: Tally::new(),
         })
     }
 }

@@ -69,7 +69,7 @@ pub(crate) fn empty_lists<T: Drop>(alloc: Global, count: usize) -> Result<Vec<It
 }
 
 /// Puts a row behind those of one partition.
-fn put_row(lists: &mut Vec<Items<Row>>, at: u32, row: Row) -> Result<(), NoMemory>
+pub(crate) fn put_row(lists: &mut Vec<Items<Row>>, at: u32, row: Row) -> Result<(), NoMemory>
     requires { at < length lists.old.items }
     ensures { OnOk result (lists.new.items ≡ slice_set lists.old.items at (get_or lists.old.items at [] ++ row ∷ [])) }
 {

@@ -1,11 +1,14 @@
 //! A run of a flow in memory: each operator in turn, over the lists of its partitions.
 #![tactic(auto)]
 
+mod by_row;
 pub mod delivery;
 mod held;
 mod lanes;
+mod numbering;
 mod ran;
 mod run;
+mod tally;
 mod whole;
 pub mod work;
 

@@ -1,16 +1,19 @@
 //! Each operator in turn, over the lists of its partitions.
 
-ghost use Rattle.std.specs.Prelude.{◌≡◌, ◌<◌, ◌==◌, ◌∷◌, [], ℕ, List, true, false, cond, nat_lt, All, OnOk, IfOk, MatchOption, length, map, get_or, set};
+ghost use Rattle.std.specs.Prelude.{◌≡◌, ◌≢◌, ◌<◌, ◌==◌, ◌∷◌, [], ℕ, List, true, false, cond, nat_lt, All, OnOk, IfOk, MatchOption, length, map, get_or, set};
 ghost use Rattle.op_base.specs.Columns.{Row as Cells};
 ghost use Rattle.flow_graph.specs.FlowShape.{IsShape};
-ghost use Rattle.flow_graph.specs.Charts.{all_links, link_at, into_seq, is_seq, op_at};
+ghost use Rattle.flow_graph.specs.Charts.{all_links, link_at, into_seq, is_seq, op_at, parts_of};
 ghost use Rattle.flow_rules.specs.Verdicts.{choice_at};
-ghost use Rattle.list_run.specs.Held.{HasRoom, MaySend, Moves, Puts, Steps, leaves, leaves_but, made_at, outputs, sent_on};
+ghost use Rattle.list_run.specs.Found.{Tallies};
+ghost use Rattle.list_run.specs.Held.{CanTurn, HasRoom, MaySend, Moves, Puts, Steps, found_at, leaves, leaves_but, made_at, out_on, outputs, place_on, sent_on, worked_at};
 ghost use Rattle.list_run.specs.Routed.{Joins, SuitsRoute};
 ghost use Rattle.list_run.specs.Runnable.{CanRun, IsBuilt, IsRunOf, IsRunnable, OpsAre, degree_at, first_into, row_count};
 ghost use Rattle.list_run.specs.Turns.{Stands};
+ghost use Rattle.list_run.specs.Worked.{CanWork, WorksByRow};
 ghost use Rattle.flow_graph.specs.Operators.{Op};
 
+use crate::by_row::work_on_rows;
 use crate::delivery::{deliver, one_partition};
 use crate::held::{Held, take_at};
 use crate::lanes::{Partitions, copy_partitions};
@@ -161,6 +164,85 @@ fn send(
     Ok(())
 }
 
+/// Whether no link behind this one leaves the operator with the same list.
+fn is_last(shaped: &Shaped, op: u32, link: usize, outs: usize) -> bool
+    requires link { link < length shaped.now.flow.links }
+    requires outs { 0 < outs }
+    ensures { result ≡ true → (l : ℕ) → link < l → l < length shaped.now.flow.links → leaves shaped.now op l ≡ true → place_on shaped.now outs l ≢ place_on shaped.now outs link }
+{
+    let place = place_on(shaped, link, outs);
+    for later in 0..shaped.flow().links.as_slice().len() {
+        if later <= link {
+            continue;
+        }
+        if !leaves(shaped, op, later) {
+            continue;
+        }
+        if place_on(shaped, later, outs) == place {
+            return false;
+        }
+    }
+    true
+}
+
+/// Which of the lists of its producer a link has.
+fn place_on(shaped: &Shaped, link: usize, outs: usize) -> usize
+    requires link { link < length shaped.now.flow.links }
+    requires outs { 0 < outs }
+    ensures { result ≡ place_on shaped.now outs link }
+{
+    (shaped.flow().links.as_slice()[link].out as usize).min(outs - 1)
+}
+
+/// The list, or a copy of it, where it is to stay.
+fn take_or_copy(
+    alloc: Global,
+    outs: &mut Vec<Partitions>,
+    at: usize,
+    take: bool,
+) -> Result<Partitions, NoMemory>
+    requires { at < length outs.old.items }
+    ensures list { IfOk result (λ lists. lists ≡ get_or outs.old.items at []) }
+    ensures count { OnOk result (length outs.new.items ≡ length outs.old.items) }
+    ensures rest { OnOk result ((k : ℕ) → (take ≡ true → k ≢ at) → get_or outs.new.items k [] ≡ get_or outs.old.items k []) }
+{
+    if take {
+        Ok(take_at(alloc, outs, at))
+    } else {
+        copy_partitions(alloc, &outs[at])
+    }
+}
+
+/// Puts on each link that leaves an operator by rows what that made for its output.
+fn send_outputs(
+    alloc: Global,
+    shaped: &Shaped,
+    choices: &[Choice],
+    nodes: u32,
+    op: u32,
+    outs: Vec<Partitions>,
+    held: &mut Held,
+) -> Result<(), NoMemory>
+    requires chosen { choices.now ≡ map (choice_at shaped.now) (all_links shaped.now) }
+    requires some { 0 < nodes }
+    requires outs { 0 < length outs.items }
+    requires room { HasRoom shaped.now held.old }
+    requires may { MaySend shaped.now nodes op (out_on shaped.now outs.items) }
+    ensures { OnOk result (Puts shaped.now nodes (outputs shaped.now op) (out_on shaped.now outs.items) held.old held.new) }
+{
+    let mut outs = outs;
+    let count = outs.len();
+    for link in 0..shaped.flow().links.as_slice().len() {
+        if !leaves(shaped, op, link) {
+            continue;
+        }
+        let last = is_last(shaped, op, link, count);
+        let sent = take_or_copy(alloc, &mut outs, place_on(shaped, link, count), last)?;
+        put(alloc, shaped, choices, nodes, link, sent, held)?;
+    }
+    Ok(())
+}
+
 /// Puts on each link that leaves an import the rows that are given for it.
 fn send_sources(
     alloc: Global,
@@ -195,6 +277,7 @@ fn keep(alloc: Global, shaped: &Shaped, op: u32, held: &mut Held)
     ensures waiting { held.new.waiting.items ≡ set held.old.waiting.items (first_into shaped.now op) [] }
     ensures counts { held.new.counts.items ≡ held.old.counts.items }
     ensures sinks { held.new.sinks.items ≡ set held.old.sinks.items op (get_or held.old.waiting.items (first_into shaped.now op) []) }
+    ensures tally { held.new.tally ≡ held.old.tally }
 {
     let got = take_at(alloc, &mut held.waiting, input_of(shaped, op));
     held.sinks[op as usize] = got;
@@ -215,12 +298,38 @@ fn pass_on(
     requires some { 0 < nodes }
     requires room { HasRoom shaped.now held.old }
     requires may { MaySend shaped.now nodes op (λ l. made_at shaped.now op held.old) }
-    ensures { OnOk result (Moves shaped.now nodes (first_into shaped.now op) (outputs shaped.now op) (λ l. made_at shaped.now op held.old) held.old held.new) }
+    ensures { OnOk result (Moves shaped.now nodes (first_into shaped.now op) (outputs shaped.now op) (λ l. made_at shaped.now op held.old) [] held.old held.new) }
 {
     let got = take_at(alloc, &mut held.waiting, input_of(shaped, op));
     let kind = &shaped.flow().ops.as_slice()[op as usize].kind;
     let made = work_on_each(alloc, kind, shaped.parts(op), got)?;
     send(alloc, shaped, choices, nodes, op, made, held)?;
+    Ok(())
+}
+
+/// Takes what came at an operator by rows, and sends what it makes of that for each output.
+fn work_by_row(
+    alloc: Global,
+    shaped: &Shaped,
+    choices: &[Choice],
+    nodes: u32,
+    op: u32,
+    held: &mut Held,
+) -> Result<(), NoMemory>
+    requires op { op < length shaped.now.flow.ops }
+    requires parts { length shaped.now.parts ≡ length shaped.now.flow.ops }
+    requires chosen { choices.now ≡ map (choice_at shaped.now) (all_links shaped.now) }
+    requires some { 0 < nodes }
+    requires room { HasRoom shaped.now held.old }
+    requires by_row { WorksByRow (op_at shaped.now op).kind }
+    requires can { CanWork (op_at shaped.now op).kind (parts_of shaped.now op) (get_or held.old.waiting.items (first_into shaped.now op) []) }
+    requires may { MaySend shaped.now nodes op (worked_at shaped.now op held.old) }
+    ensures { OnOk result (Moves shaped.now nodes (first_into shaped.now op) (outputs shaped.now op) (worked_at shaped.now op held.old) (found_at shaped.now op (get_or held.old.waiting.items (first_into shaped.now op) [])) held.old held.new) }
+{
+    let got = take_at(alloc, &mut held.waiting, input_of(shaped, op));
+    let kind = &shaped.flow().ops.as_slice()[op as usize].kind;
+    let outs = work_on_rows(alloc, op, kind, shaped.parts(op), got, &mut held.tally)?;
+    send_outputs(alloc, shaped, choices, nodes, op, outs, held)?;
     Ok(())
 }
 
@@ -240,6 +349,7 @@ fn run_operator(
     requires chosen { choices.now ≡ map (choice_at shaped.now) (all_links shaped.now) }
     requires some { 0 < nodes }
     requires room { HasRoom shaped.now held.old }
+    requires can { CanTurn (op_at shaped.now op).kind (parts_of shaped.now op) (get_or held.old.waiting.items (first_into shaped.now op) []) }
     requires may { MaySend shaped.now nodes op (sent_on shaped.now (λ i. get_or held.old.waiting.items i []) (λ i. get_or sources.old.items i [])) }
     ensures { OnOk result (Steps shaped.now nodes op sources.old.items sources.new.items held.old held.new) }
 {
@@ -254,6 +364,13 @@ fn run_operator(
         }
         OpKind::Copy | OpKind::Tsort { .. } | OpKind::Remdup { .. } => {
             pass_on(alloc, shaped, choices, nodes, op, held)?;
+            Ok(())
+        }
+        OpKind::Filter { .. }
+        | OpKind::Transform { .. }
+        | OpKind::Modify { .. }
+        | OpKind::Switch { .. } => {
+            work_by_row(alloc, shaped, choices, nodes, op, held)?;
             Ok(())
         }
         _ => unreachable!(),
@@ -271,6 +388,7 @@ fn run_all(
 ) -> Result<(), NoMemory>
     requires runs { IsRunnable shaped.now choices.now nodes sources.old.items }
     requires room { HasRoom shaped.now held.old }
+    requires tally { Tallies [] held.old.tally }
     ensures { OnOk result (Stands shaped.now nodes sources.old.items (length shaped.now.order) sources.new.items held.new) }
 {
     for op in shaped.order() {
@@ -303,9 +421,12 @@ pub fn run_lists(
         waiting: _,
         counts,
         sinks,
+        tally,
     } = held;
     Ok(Ran {
         counts: Items::from_vec(counts),
         sinks: Items::from_vec(sinks),
+        faults: tally.faults,
+        least: tally.least,
     })
 }

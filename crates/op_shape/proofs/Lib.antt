@@ -1,3 +1,4 @@
+mod Examples
 pub mod Firsts
 pub mod Fit
 pub mod Held

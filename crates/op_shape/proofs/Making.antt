@@ -69,7 +69,7 @@ new_each (p ∷ rename) name n h = go (bytes_eq (p.1) name) (new_each rename nam
     go true k = n.0
     go false k = k
 
-at_each : (fields : List Field) (c : ℕ) (d : Field) → AllByRecursion IsField fields → c < length fields → IsField (get_or fields c d)
+pub at_each : (fields : List Field) (c : ℕ) (d : Field) → AllByRecursion IsField fields → c < length fields → IsField (get_or fields c d)
 at_each [] c d a h = absurd (omega arith)
 at_each (f ∷ fields) zero d a h = a.0
 at_each (f ∷ fields) (suc c) d a h = at_each fields c d a.1 (omega arith)

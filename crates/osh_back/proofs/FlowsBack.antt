@@ -32,7 +32,7 @@ use Rattle.osh_back.specs.Spelled.{OpFits, CanBeSpelled}
 use Rattle.osh_back.specs.BackLaws.{PrintedReadsBack}
 use Rattle.osh_back.proofs.PrintedWords.{semicolon, NoWordByte}
 use Rattle.osh_back.proofs.OptionsStand.{stand_together}
-use Rattle.osh_back.proofs.LinesPrinted.{built, IsLine, AreLines, AllLines, lines_print}
+use Rattle.osh_back.proofs.LinesPrinted.{can_be_said, IsLine, AreLines, AllLines, lines_print}
 use Rattle.osh_back.proofs.OutputsBack.{ne_from, Leaves, all_leave, Sources, all_sources}
 use Rattle.osh_back.proofs.InputsBack.{links_back}
 use Rattle.osh_back.proofs.JoinedBack.{all_joined}
@@ -87,7 +87,7 @@ lines_stand links number (o ∷ os) (w ∷ ws) f h = (one o w f.0 h.0, lines_sta
     one : (o : OpSpec) (w : WrittenStage) → OpFits o → IsLine links number o w → IsStage w
     one o w f l = record {
       together = subst (λ ws. StandTogether [] ws) (sym l.options) (stand_together o.kind f.0);
-      says = ap (λ x. kind_of x (map setting_of w.options)) l.op ∙ (ap (λ xs. kind_of (name_of o.kind) (map setting_of xs)) l.options ∙ (written_says o.kind (built o.kind f.0) ∙ ap (λ k. Some k) (sym l.kind)));
+      says = ap (λ x. kind_of x (map setting_of w.options)) l.op ∙ (ap (λ xs. kind_of (name_of o.kind) (map setting_of xs)) l.options ∙ (written_says o.kind (can_be_said o.kind f.0) ∙ ap (λ k. Some k) (sym l.kind)));
     }
 
 as_many : (links : List LinkSpec) (number : ℕ) (os : List OpSpec) (ws : List WrittenStage) → AreLines links number os ws → length ws ≡ length os

@@ -1,5 +1,6 @@
 pub mod PrintedWords
 pub mod MethodsPrinted
+pub mod Quotables
 pub mod OptionsFit
 pub mod OptionsStand
 pub mod LinesPrinted

@@ -32,7 +32,7 @@ use Rattle.osh_print.specs.LinkText.{method_text, link_name, input_text, inputs_
 use Rattle.osh_print.specs.FlowText.{mark_text, line, lines}
 use Rattle.osh_sound.specs.Grammar.{WrittenOption, options_phrase, mark_word, mark_phrase, WrittenStage, stage_phrase, joint_phrase, further_phrase, stages_phrase}
 use Rattle.osh_sound.specs.OptionLaws.{by_form, written_text}
-use Rattle.osh_sound.specs.OperatorLaws.{IsBuilt, written}
+use Rattle.osh_sound.specs.OperatorLaws.{CanBeSaid, written}
 use Rattle.osh_sound.specs.Sound.{MarkFits}
 use Rattle.osh_sound.proofs.KindsKeep.{CanRun}
 use Rattle.osh_sound.proofs.OptionsPrinted.{options_print}
@@ -190,9 +190,9 @@ can_run (kind.Export file delim fixed) m f h = h
 can_run (kind.Dsread ds) m f h = h
 can_run (kind.Dswrite ds) m f h = h
 can_run kind.Copy m f h = h
-can_run (kind.Filter test reject) m f h = absurd f
-can_run (kind.Transform set reject) m f h = absurd f
-can_run (kind.Switch on cases reject) m f h = absurd f
+can_run (kind.Filter test reject) m f h = h
+can_run (kind.Transform set reject) m f h = h
+can_run (kind.Switch on cases reject) m f h = h
 can_run (kind.Modify keep drop rename) m f h = h
 can_run (kind.Tsort key) m f h = h
 can_run (kind.Remdup key last) m f h = h
@@ -217,9 +217,9 @@ operator_prints (kind.Export file delim fixed) h = prints_name Osh 101 (codes "x
 operator_prints (kind.Dsread ds) h = prints_name Osh 100 (codes "sread") (Named op.Dsread) refl refl refl
 operator_prints (kind.Dswrite ds) h = prints_name Osh 100 (codes "swrite") (Named op.Dswrite) refl refl refl
 operator_prints kind.Copy h = prints_name Osh 99 (codes "opy") (Named op.Copy) refl refl refl
-operator_prints (kind.Filter test reject) h = absurd h
-operator_prints (kind.Transform set reject) h = absurd h
-operator_prints (kind.Switch on cases reject) h = absurd h
+operator_prints (kind.Filter test reject) h = prints_name Osh 102 (codes "ilter") (Named op.Filter) refl refl refl
+operator_prints (kind.Transform set reject) h = prints_name Osh 116 (codes "ransform") (Named op.Transform) refl refl refl
+operator_prints (kind.Switch on cases reject) h = prints_name Osh 115 (codes "witch") (Named op.Switch) refl refl refl
 operator_prints (kind.Modify keep drop rename) h = prints_name Osh 109 (codes "odify") (Named op.Modify) refl refl refl
 operator_prints (kind.Tsort key) h = prints_name Osh 116 (codes "sort") (Named op.Tsort) refl refl refl
 operator_prints (kind.Remdup key last) h = prints_name Osh 114 (codes "emdup") (Named op.Remdup) refl refl refl
@@ -233,11 +233,9 @@ operator_prints (kind.Lookup key missing) h = prints_name Osh 108 (codes "ookup"
 operator_prints (kind.Changecapture key values keepcopy) h = prints_name Osh 99 (codes "hangecapture") (Named op.Changecapture) refl refl refl
 operator_prints (kind.Funnel sequence sort) h = prints_name Osh 102 (codes "unnel") (Named op.Funnel) refl refl refl
 
-pub built : (k : OpKind) → KindFits k → IsBuilt k
-built (kind.Filter test reject) h = absurd h
-built (kind.Transform set reject) h = absurd h
-built (kind.Switch on cases reject) h = absurd h
-built k h = tt
+pub can_be_said : (k : OpKind) → KindFits k → CanBeSaid k
+can_be_said (kind.Transform set reject) h = h.0
+can_be_said k h = tt
 
 -- an operator without the end of its line
 abbrev op_text : List LinkSpec → ℕ → OpSpec → List ℕ
@@ -266,7 +264,7 @@ line_prints links number o n h f =
     let y = mark_text (plain_mark name) o.mark in
     let z = ends_of links number in
     let spaced = spaced_then y z (spaced_mark (plain_mark name) o.mark) (spaced_ends_of links number) in
-    subst (λ (t : List ℕ). Prints Osh (OneLine links number o) (operator_word name ++ (t ++ (y ++ z))) NoWordByte) (sym (written_printed o.kind (built o.kind f.0)))
+    subst (λ (t : List ℕ). Prints Osh (OneLine links number o) (operator_word name ++ (t ++ (y ++ z))) NoWordByte) (sym (written_printed o.kind (can_be_said o.kind f.0)))
     (prints_as (token sort.Word (Named name) ~ options_phrase name (written o.kind) ~ mark_phrase name o.mark ~ Somewhere (shapes links number)) (OneLine links number o) (operator_word name ++ (x ++ (y ++ z))) NoWordByte
     (λ ts rest p. (let q = p.2 in let r = q.2 in let s = r.2 in
     (stage_with o s.0, record { op = refl; options = refl; kind = refl; mark = refl; joined = refl; redirects = s.1 }, (p.0, p.1, (p.0, (none_lacks o.kind p.0 q.0 f.0 q.1, refl), (q.0, q.1, (r.0, r.1, s.2)))))))

@@ -1,8 +1,8 @@
 -- The options that are printed of an operator that can be spelled have values that can be spelled.
-use Rattle.std.proofs.Common.{◌≡◌, ◌≤◌, ◌<◌, ◌^◌, inl, inr, ℕ, List, [], ◌∷◌, ◌++◌, map, Bool, true, false, Option, Some, None, refl, sym, ap, ◌∙◌, subst, arith}
+use Rattle.std.proofs.Common.{◌≡◌, ◌≤◌, ◌<◌, ◌^◌, inl, inr, ℕ, suc, ℤ, pos, negsuc, FitsSigned, w64, lit<, List, [], ◌∷◌, ◌++◌, map, Bool, true, false, Option, Some, None, refl, sym, ap, ◌∙◌, subst, arith}
 use Rattle.std.specs.Prelude.{if◌then◌else◌, not, ◌==◌, ◌&&◌, ◌||◌, codes}
 use Rattle.std.specs.List.{list_all, flat_map, AllByRecursion}
-use Rattle.std.specs.Fmt.{decimal}
+use Rattle.std.specs.Fmt.{decimal, signed_decimal}
 use Rattle.std.specs.Cmp.{first_so, second_so}
 use Rattle.std.proofs.lemmas.Bool.{and_from, not-true}
 use Rattle.std.proofs.lemmas.Fmt.{decimal_is_IsNumeral}
@@ -23,6 +23,7 @@ use Rattle.ds_schema.specs.Schemas.{IsFieldName, IsField, IsSchema}
 use Rattle.ds_schema.specs.SchemaText.{kind_text, nullable_text, field_text, schema_text}
 use Rattle.ds_schema.specs.ColumnText.{desc_text, key_text, names_text, keys_text}
 use Rattle.ds_schema.proofs.SizeReaders.{digits_all}
+use Rattle.flow_graph.specs.declared.op_kind.SetSpec.{SetSpec}
 use Rattle.flow_graph.specs.declared.op_kind.AggSpec.{AggSpec}
 use Rattle.flow_graph.specs.declared.op_kind.AggSpec.TheVariants as agg
 use Rattle.flow_graph.specs.declared.op_kind.OpKind.{OpKind}
@@ -37,11 +38,12 @@ use Rattle.osh_table.specs.Options.{row, row_named}
 use Rattle.osh_value.specs.declared.value.OptValue.TheVariants as value
 use Rattle.osh_print.specs.OptionText.{has_quote, quote_of, with_commas, pair_text, missing_word, name_of}
 use Rattle.osh_sound.specs.Grammar.{WrittenOption}
-use Rattle.osh_sound.specs.ValueLaws.{agg_text, IsColumn, IsPair, IsResult, ArePairs, AreColumns, AreKeys}
+use Rattle.osh_sound.specs.ValueLaws.{agg_text, IsColumn, IsPair, IsResult, ArePairs, AreCases, AreColumns, AreKeys}
 use Rattle.osh_sound.specs.OptionLaws.{IsQuotable, OptionFits}
-use Rattle.osh_sound.specs.OperatorLaws.{one, flag_of, delim_of, widths_of, keys_of, columns_of, renames_of, missing_of, result_of, written}
+use Rattle.osh_sound.specs.OperatorLaws.{one, flag_of, delim_of, widths_of, keys_of, columns_of, renames_of, missing_of, result_of, set_of, written}
 use Rattle.osh_sound.proofs.ValuesBack.{values_back}
-use Rattle.osh_back.specs.Spelled.{Maybe, IsDelimiter, FormFits, IsDataSet, KeepsOrDrops, KindFits}
+use Rattle.osh_back.specs.Spelled.{Maybe, IsDelimiter, FormFits, IsDataSet, KeepsOrDrops, ExpressionFits, SetFits, KindFits}
+use Rattle.osh_back.proofs.Quotables.{set_quotable}
 use Rattle.osh_back.proofs.PrintedWords.{digits_words}
 
 -- ---- bytes that stand between double quotes
@@ -253,6 +255,24 @@ results_fit : (rs : List AggSpec) → AllByRecursion IsResult rs → AllFit op.G
 results_fit [] h = tt
 results_fit (r ∷ rs) h = (result_fits r h.0, results_fit rs h.1)
 
+expression_fits : (o : OpName) (w : OptName) (kept : List ℕ) → row_named o (option_word w) ≡ Some (row w form.Expression true 1) → ExpressionFits kept → OptionFits o (one w form.Expression true 1 (value.Expression kept))
+expression_fits o w kept r h = record { row = r; value = (h.1, values_back.expression kept h.0) }
+
+sets_fit : (set : List SetSpec) → AllByRecursion SetFits set → AllFit op.Transform (map set_of set)
+sets_fit [] h = tt
+sets_fit (s ∷ set) h = (record { row = refl; value = (set_quotable s h.0.0 h.0.1.1, values_back.set s (h.0.0, h.0.1.0)) }, sets_fit set h.1)
+
+plain_case : (z : ℤ) → FitsSigned w64 z → Plain (signed_decimal z)
+plain_case (pos n) h = plain_number n (let k : 2 ^ 63 < 2 ^ 64 = lit< tt in omega arith)
+plain_case (negsuc n) h = joined (codes "-") (decimal (suc n)) refl (plain_number (suc n) (let k : 2 ^ 63 < 2 ^ 64 = lit< tt in omega arith))
+
+each_case : (cases : List ℤ) → AllByRecursion (FitsSigned w64) cases → AllByRecursion (λ z. Plain (signed_decimal z)) cases
+each_case [] h = tt
+each_case (z ∷ cases) h = (plain_case z h.0, each_case cases h.1)
+
+cases_fit : (cases : List ℤ) → AreCases cases → OptionFits op.Switch (one opt.Cases form.Cases true 2 (value.Cases cases))
+cases_fit cases h = record { row = refl; value = (quotable (with_commas signed_decimal cases) (commas_plain signed_decimal cases (each_case cases h.each)), values_back.cases cases h) }
+
 -- ---- operators
 
 pub perhaps : {A : Type 0} (P : List A → Type 0) (xs : List A) → P xs → Maybe P xs
@@ -286,9 +306,9 @@ options_fit (kind.Export file delim fixed) h = (file_fits op.Export file refl h.
 options_fit (kind.Dsread ds) h = data_set_fits op.Dsread ds refl h
 options_fit (kind.Dswrite ds) h = data_set_fits op.Dswrite ds refl h
 options_fit kind.Copy h = tt
-options_fit (kind.Filter test reject) h = absurd h
-options_fit (kind.Transform set reject) h = absurd h
-options_fit (kind.Switch on cases reject) h = absurd h
+options_fit (kind.Filter test reject) h = (expression_fits op.Filter opt.Where test refl h, flag_fits op.Filter opt.Reject 2 reject refl)
+options_fit (kind.Transform set reject) h = both op.Transform (map set_of set) (flag_of opt.Reject 1 reject) (sets_fit set h.1) (flag_fits op.Transform opt.Reject 1 reject refl)
+options_fit (kind.Switch on cases reject) h = (expression_fits op.Switch opt.On on refl h.0, (cases_fit cases h.1, flag_fits op.Switch opt.Reject 3 reject refl))
 options_fit (kind.Modify keep drop rename) h =
     (let c = keep_fits keep drop h.0 in
     both op.Modify (columns_of opt.Keep 1 keep) (columns_of opt.Drop 1 drop ++ renames_of rename) (columns_fit op.Modify opt.Keep 1 keep refl c.0)

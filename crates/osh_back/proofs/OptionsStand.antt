@@ -1,13 +1,15 @@
 -- The options that are printed of an operator stand together, and none that it must have lacks.
 use Rattle.std.proofs.Common.{◌≡◌, ◌⊎◌, ◌≤◌, inl, inr, ℕ, List, [], ◌∷◌, ◌++◌, length, map, Bool, true, false, Option, Some, None, refl, sym, ap, ◌∙◌, subst, arith, ◌+◌}
-use Rattle.std.specs.Prelude.{if◌then◌else◌, not, ◌==◌, ◌&&◌}
+use Rattle.std.specs.Prelude.{if◌then◌else◌, not, ◌==◌, ◌&&◌, ◌||◌}
 use Rattle.std.specs.Str.{bytes_eq}
 use Rattle.std.proofs.lemmas.Bool.{or_right, eq-eqb}
+use Rattle.std.proofs.lemmas.List.Folds.{list_any-append}
 use Rattle.op_base.specs.declared.missing.Missing.TheVariants as missing
 use Rattle.ds_lex.specs.declared.token.Sort.{Sort}
 use Rattle.ds_lex.specs.declared.token.Sort.TheVariants as sort
 use Rattle.ds_lex.specs.Lexemes.{Lexeme}
 use Rattle.ds_lex.proofs.Readers.{same_bytes, bytes_same}
+use Rattle.flow_graph.specs.declared.op_kind.SetSpec.{SetSpec}
 use Rattle.flow_graph.specs.declared.op_kind.AggSpec.{AggSpec}
 use Rattle.flow_graph.specs.declared.op_kind.OpKind.{OpKind}
 use Rattle.flow_graph.specs.declared.op_kind.OpKind.TheVariants as kind
@@ -23,10 +25,10 @@ use Rattle.osh_table.specs.Options.{options_of, row_among}
 use Rattle.osh_value.specs.declared.value.OptValue.{OptValue}
 use Rattle.osh_value.specs.declared.value.OptValue.TheVariants as value
 use Rattle.osh_value.specs.declared.setting.Setting.{Setting}
-use Rattle.osh_read.specs.Options.{is_opt, is_value, stands_ahead, lacks_option}
+use Rattle.osh_read.specs.Options.{is_opt, is_value, has_group, stands_ahead, lacks_option}
 use Rattle.osh_print.specs.OptionText.{name_of}
 use Rattle.osh_sound.specs.Grammar.{WrittenOption, setting_of, value_phrase, options_phrase, StandTogether}
-use Rattle.osh_sound.specs.OperatorLaws.{one, flag_of, widths_of, keys_of, columns_of, missing_of, result_of, written}
+use Rattle.osh_sound.specs.OperatorLaws.{one, flag_of, widths_of, keys_of, columns_of, missing_of, result_of, set_of, written}
 use Rattle.osh_sound.specs.ValueLaws.{AreKeys}
 use Rattle.osh_back.specs.Spelled.{FormFits, KindFits}
 
@@ -118,9 +120,14 @@ none_lacks (kind.Export file delim fixed) ts rest h p = (let f = ahead op.Export
 none_lacks (kind.Dsread ds) ts rest h p = (let f = ahead op.Dsread false opt.Ds (written (kind.Dsread ds)) ts rest p (inl refl) in rw f refl)
 none_lacks (kind.Dswrite ds) ts rest h p = (let f = ahead op.Dswrite false opt.Ds (written (kind.Dswrite ds)) ts rest p (inl refl) in rw f refl)
 none_lacks kind.Copy ts rest h p = refl
-none_lacks (kind.Filter test reject) ts rest h p = absurd h
-none_lacks (kind.Transform set reject) ts rest h p = absurd h
-none_lacks (kind.Switch on cases reject) ts rest h p = absurd h
+none_lacks (kind.Filter test reject) ts rest h p = (let f = ahead op.Filter false opt.Where (written (kind.Filter test reject)) ts rest p (inl refl) in rw f refl)
+none_lacks (kind.Transform [] reject) ts rest h p = absurd (omega (arith, h.0))
+none_lacks (kind.Transform (s ∷ set) reject) ts rest h p = (let f = ahead op.Transform false opt.Set (written (kind.Transform (s ∷ set) reject)) ts rest p (inl refl) in rw f refl)
+none_lacks (kind.Switch on cases reject) ts rest h p =
+    (let ws = written (kind.Switch on cases reject) in
+    let f = ahead op.Switch false opt.On ws ts rest p (inl refl) in
+    let s = ahead op.Switch false opt.Cases ws ts rest p (inr (inl refl)) in
+    rw (f, s) refl)
 none_lacks (kind.Modify keep drop rename) ts rest h p = modify_stands keep drop rename ts rest h.2 p
 none_lacks (kind.Tsort key) ts rest h p = (let f = key_alone op.Tsort key ts rest h p in rw f refl)
 none_lacks (kind.Remdup key last) ts rest h p = (let f = key_stands op.Remdup key (flag_of opt.Last 2 last) ts rest h p in rw f refl)
@@ -172,15 +179,25 @@ group_together [] false rs = results_together [] rs
 group_together (k ∷ ks) true rs = (refl, (refl, results_together _ rs))
 group_together (k ∷ ks) false rs = (refl, results_together _ rs)
 
+-- sets exclude nothing
+sets_together : (before : List Setting) (set : List SetSpec) (reject : Bool) → has_group before 1 ≡ false → StandTogether before (map set_of set ++ flag_of opt.Reject 1 reject)
+sets_together before [] true h = (h, tt)
+sets_together before [] false h = tt
+sets_together before (s ∷ set) reject h =
+    let more : has_group (before ++ setting_of (set_of s) ∷ []) 1 ≡ false = list_any-append (λ (x : Setting). x.group == 1) before (setting_of (set_of s) ∷ []) ∙ ap (λ b. b || false) h in
+    (refl, sets_together (before ++ setting_of (set_of s) ∷ []) set reject more)
+
 pub stand_together : (k : OpKind) → KindFits k → StandTogether [] (written k)
 stand_together (kind.Import file schema delim fixed reject) h = import_together file schema delim fixed reject (delim == 44) refl h.2
 stand_together (kind.Export file delim fixed) h = export_together file delim fixed (delim == 44) refl h.1
 stand_together (kind.Dsread ds) h = (refl, tt)
 stand_together (kind.Dswrite ds) h = (refl, tt)
 stand_together kind.Copy h = tt
-stand_together (kind.Filter test reject) h = absurd h
-stand_together (kind.Transform set reject) h = absurd h
-stand_together (kind.Switch on cases reject) h = absurd h
+stand_together (kind.Filter test true) h = (refl, (refl, tt))
+stand_together (kind.Filter test false) h = (refl, tt)
+stand_together (kind.Transform set reject) h = sets_together [] set reject refl
+stand_together (kind.Switch on cases true) h = (refl, (refl, (refl, tt)))
+stand_together (kind.Switch on cases false) h = (refl, (refl, tt))
 stand_together (kind.Modify keep drop rename) h = modify_together keep drop rename h
 stand_together (kind.Tsort []) h = tt
 stand_together (kind.Tsort (k ∷ ks)) h = (refl, tt)

@@ -1,5 +1,5 @@
 -- What is read as an operator with its options can be spelled as one.
-use Rattle.std.proofs.Common.{◌≡◌, ◌⊎◌, ◌≤◌, inl, inr, ℕ, List, [], ◌∷◌, ◌++◌, length, map, get_or, Bool, true, false, Option, Some, None, refl, sym, ap, ◌∙◌, subst, arith, ◌+◌}
+use Rattle.std.proofs.Common.{◌≡◌, ◌⊎◌, ◌≤◌, inl, inr, ℕ, ℤ, List, [], ◌∷◌, ◌++◌, length, map, get_or, Bool, true, false, Option, Some, None, refl, sym, ap, ◌∙◌, subst, arith, ◌+◌}
 use Rattle.std.specs.Prelude.{if◌then◌else◌, not, ◌==◌, ◌&&◌, ◌||◌}
 use Rattle.std.specs.List.{AllByRecursion, list_any}
 use Rattle.std.specs.Str.{bytes_eq}
@@ -13,6 +13,7 @@ use Rattle.ds_lex.specs.Lexemes.{Lexeme}
 use Rattle.ds_lex.proofs.Readers.{same_bytes}
 use Rattle.ds_schema.specs.declared.schema.Field.{Field}
 use Rattle.ds_schema.specs.Schemas.{IsSchema}
+use Rattle.flow_graph.specs.declared.op_kind.SetSpec.{SetSpec}
 use Rattle.flow_graph.specs.declared.op_kind.AggSpec.{AggSpec}
 use Rattle.flow_graph.specs.declared.op_kind.OpKind.{OpKind}
 use Rattle.flow_graph.specs.declared.op_kind.OpKind.TheVariants as kind
@@ -28,12 +29,12 @@ use Rattle.osh_table.specs.Options.{row, options_of, row_named}
 use Rattle.osh_value.specs.declared.value.OptValue.{OptValue}
 use Rattle.osh_value.specs.declared.value.OptValue.TheVariants as value
 use Rattle.osh_value.specs.declared.setting.Setting.{Setting}
-use Rattle.osh_value.specs.Kinds.{number_of, found_value, stands, name_in, schema_in, delim_in, widths_in, keys_in, columns_in, renames_in, results_of, with_value, kind_of}
+use Rattle.osh_value.specs.Kinds.{number_of, found_value, stands, name_in, schema_in, delim_in, widths_in, keys_in, columns_in, renames_in, expression_in, cases_in, sets_of, results_of, with_value, transform_by, kind_of}
 use Rattle.osh_read.specs.Options.{is_opt, is_value, has_group, clashes, stands_ahead, is_lacking, lacks_option}
 use Rattle.osh_sound.specs.Grammar.{WrittenOption, setting_of, value_phrase, options_phrase, StandTogether}
-use Rattle.osh_sound.specs.ValueLaws.{IsResult, ArePairs, AreColumns, AreKeys}
+use Rattle.osh_sound.specs.ValueLaws.{IsResult, ArePairs, AreCases, AreColumns, AreKeys}
 use Rattle.osh_sound.proofs.OptionsRead.{PlainFront}
-use Rattle.osh_back.specs.Spelled.{Maybe, FormFits, IsDataSet, KeepsOrDrops, KindFits}
+use Rattle.osh_back.specs.Spelled.{Maybe, FormFits, IsDataSet, KeepsOrDrops, ExpressionFits, SetFits, KindFits}
 use Rattle.osh_back.proofs.OptionsFit.{perhaps}
 use Rattle.osh_back.proofs.OptionsStand.{Among, row_word}
 use Rattle.osh_back.proofs.ReadLists.{SoundIn}
@@ -281,6 +282,16 @@ read_schema None fields g h = absurd cc
 read_schema (Some (value.Schema fs)) fields g h = subst IsSchema (some_is fs fields h) (g (value.Schema fs) refl)
 read_schema (Some v) fields g h = absurd (g v refl)
 
+read_expression_in : (o : Option OptValue) (expr : List ℕ) → Found form.Expression o → expression_in o ≡ Some expr → ExpressionFits expr
+read_expression_in None expr g h = absurd cc
+read_expression_in (Some (value.Expression kept)) expr g h = subst ExpressionFits (some_is kept expr h) (g (value.Expression kept) refl)
+read_expression_in (Some v) expr g h = absurd (g v refl)
+
+read_cases_in : (o : Option OptValue) (cases : List ℤ) → Found form.Cases o → cases_in o ≡ Some cases → AreCases cases
+read_cases_in None cases g h = absurd cc
+read_cases_in (Some (value.Cases zs)) cases g h = subst AreCases (some_is zs cases h) (g (value.Cases zs) refl)
+read_cases_in (Some v) cases g h = absurd (g v refl)
+
 form_by : (d f : Option OptValue) → Found form.Delim d → Found form.Widths f → ((v w : OptValue) → d ≡ Some v → f ≡ Some w → ⊥) → FormFits (delim_in d) (widths_in f)
 form_by None None g k n = record { text = refl; other = refl }
 form_by (Some (value.Delim b)) None g k n = g (value.Delim b) refl
@@ -313,6 +324,32 @@ results_good o (w ∷ ws) g = by w.row.form w.value g.0.value (results_good o ws
     by f (value.Renames ps) k more = more
     by f (value.Keys ks) k more = more
     by f (value.Missing m) k more = more
+    by f (value.Expression kept) k more = more
+    by f (value.Set s) k more = more
+    by f (value.Cases zs) k more = more
+
+set_is_good : (f : Form) (s : SetSpec) → GoodValue f (value.Set s) → SetFits s
+set_is_good form.Setting s h = h
+set_is_good f s h = absurd h
+
+sets_good : (o : OpName) (ws : List WrittenOption) → AllGood o ws → AllByRecursion SetFits (sets_of (map setting_of ws))
+sets_good o [] g = tt
+sets_good o (w ∷ ws) g = by w.row.form w.value g.0.value (sets_good o ws g.1)
+  where
+    by : (f : Form) (v : OptValue) → GoodValue f v → AllByRecursion SetFits (sets_of (map setting_of ws)) → AllByRecursion SetFits (sets_of (record { opt = w.row.opt; group = w.row.group; value = v } ∷ map setting_of ws))
+    by f (value.Set s) k more = (set_is_good f s k, more)
+    by f (value.Result r) k more = more
+    by f value.Flag k more = more
+    by f (value.Name n) k more = more
+    by f (value.Schema fs) k more = more
+    by f (value.Delim b) k more = more
+    by f (value.Widths ns) k more = more
+    by f (value.Columns ns) k more = more
+    by f (value.Renames ps) k more = more
+    by f (value.Keys ks) k more = more
+    by f (value.Missing m) k more = more
+    by f (value.Expression kept) k more = more
+    by f (value.Cases zs) k more = more
 
 -- ---- operators
 
@@ -350,6 +387,18 @@ dsread_fits ws k h e = with_kept KindFits (name_in (at opt.Ds ws)) _ k e (λ ds 
 
 dswrite_fits : (ws : List WrittenOption) (k : OpKind) → Whole op.Dswrite ws → kind_of op.Dswrite (map setting_of ws) ≡ Some k → KindFits k
 dswrite_fits ws k h e = with_kept KindFits (name_in (at opt.Ds ws)) _ k e (λ ds f m. kept _ k (named_data_set (at opt.Ds ws) ds (found op.Dswrite opt.Ds (row opt.Ds form.DataSet true 1) ws refl h.good) f) m)
+
+filter_fits : (ws : List WrittenOption) (k : OpKind) → Whole op.Filter ws → kind_of op.Filter (map setting_of ws) ≡ Some k → KindFits k
+filter_fits ws k h e = with_kept KindFits (expression_in (at opt.Where ws)) _ k e (λ test f m. kept _ k (read_expression_in (at opt.Where ws) test (found op.Filter opt.Where (row opt.Where form.Expression true 1) ws refl h.good) f) m)
+
+switch_fits : (ws : List WrittenOption) (k : OpKind) → Whole op.Switch ws → kind_of op.Switch (map setting_of ws) ≡ Some k → KindFits k
+switch_fits ws k h e =
+    with_kept KindFits (expression_in (at opt.On ws)) _ k e (λ on f g. with_kept KindFits (cases_in (at opt.Cases ws)) _ k g (λ cases c m.
+    kept _ k (read_expression_in (at opt.On ws) on (found op.Switch opt.On (row opt.On form.Expression true 1) ws refl h.good) f, read_cases_in (at opt.Cases ws) cases (found op.Switch opt.Cases (row opt.Cases form.Cases true 2) ws refl h.good) c) m))
+
+transform_by_fits : (set : List SetSpec) (reject : Bool) (k : OpKind) → AllByRecursion SetFits set → transform_by set reject ≡ Some k → KindFits k
+transform_by_fits [] reject k g e = absurd cc
+transform_by_fits (s ∷ set) reject k g e = kept (kind.Transform (s ∷ set) reject) k (omega arith, g) e
 
 keep_row : OptRow
 keep_row = row opt.Keep form.Columns false 1
@@ -399,9 +448,9 @@ kind_fits op.Export ws k h e = export_fits ws k h e
 kind_fits op.Dsread ws k h e = dsread_fits ws k h e
 kind_fits op.Dswrite ws k h e = dswrite_fits ws k h e
 kind_fits op.Copy ws k h e = kept _ k tt e
-kind_fits op.Filter ws k h e = absurd cc
-kind_fits op.Transform ws k h e = absurd cc
-kind_fits op.Switch ws k h e = absurd cc
+kind_fits op.Filter ws k h e = filter_fits ws k h e
+kind_fits op.Transform ws k h e = transform_by_fits (sets_of (map setting_of ws)) _ k (sets_good op.Transform ws h.good) e
+kind_fits op.Switch ws k h e = switch_fits ws k h e
 kind_fits op.Modify ws k h e = kept _ k (keeps_by ws (at opt.Keep ws) (at opt.Drop ws) h refl refl, may_renames (at opt.Rename ws) (found op.Modify opt.Rename rename_row ws refl h.good), modify_some ws h) e
 kind_fits op.Group ws k h e = kept _ k (may_keys (at opt.Key ws) (found op.Group opt.Key (row opt.Key form.Keys false 1) ws refl h.good), results_good op.Group ws h.good) e
 kind_fits op.Changecapture ws k h e = kept _ k (the_key op.Changecapture ws refl h ((required op.Changecapture ws h).0 refl), may_columns (at opt.Values ws) (found op.Changecapture opt.Values (row opt.Values form.Columns false 2) ws refl h.good)) e

@@ -1,11 +1,12 @@
 -- What is read as the value of an option can be spelled as one.
-use Rattle.std.proofs.Common.{◌≡◌, ◌≤◌, ◌-◌, inl, inr, ℕ, zero, suc, List, [], ◌∷◌, ◌++◌, length, Bool, true, false, Result, Ok, Err, Option, Some, None, refl, sym, ap, ◌∙◌, subst, append_assoc, arith, length-append}
+use Rattle.std.proofs.Common.{◌≡◌, ◌≤◌, ◌-◌, ◌⊎◌, inl, inr, ℕ, zero, suc, ℤ, FitsSigned, w64, drop, List, [], ◌∷◌, ◌++◌, length, Bool, true, false, Result, Ok, Err, Option, Some, None, refl, sym, ap, ◌∙◌, subst, append_assoc, arith, length-append}
 use Rattle.std.specs.Prelude.{if◌then◌else◌, not, ◌&&◌, ◌||◌, ◌==◌, nat_le, nat_lt, codes}
 use Rattle.std.specs.List.{AllByRecursion, list_all}
 use Rattle.std.specs.Option.{option_map}
 use Rattle.std.specs.Cmp.{first_so, second_so}
+use Rattle.std.specs.Str.{bytes_eq}
 use Rattle.std.specs.Str.Parse.{digits_value}
-use Rattle.std.proofs.lemmas.Bool.{leb-true, and_from}
+use Rattle.std.proofs.lemmas.Bool.{leb-true, eqb-true, or_cases, and_from}
 use Rattle.std.proofs.lemmas.Bool.Decides.{nat_tests}
 use Rattle.std.proofs.lemmas.List.{append-nil}
 use Rattle.std.proofs.lemmas.List.Folds.{list_all-append}
@@ -31,17 +32,21 @@ use Rattle.ds_schema.proofs.FieldNames.{field_name}
 use Rattle.ds_schema.proofs.ListReaders.{ok_parts, accepted}
 use Rattle.ds_schema.proofs.ColumnLists.{names_stand, keys_stand}
 use Rattle.ds_schema.proofs.SchemaTexts.{text_is_spelled}
+use Rattle.flow_graph.specs.declared.op_kind.SetSpec.{SetSpec}
 use Rattle.flow_graph.specs.declared.op_kind.AggSpec.TheVariants as agg
 use Rattle.osh_table.specs.declared.option.Form.{Form}
 use Rattle.osh_table.specs.declared.option.Form.TheVariants as form
 use Rattle.osh_value.specs.declared.value.OptValue.{OptValue}
 use Rattle.osh_value.specs.declared.value.OptValue.TheVariants as value
-use Rattle.osh_value.specs.Values.{Inside, unquoted, content_by, content_of, schema_value, delim_value, missing_named, new_name_at, has_old, rename_at, renames_at, width_at, widths_at, with_commas, said_at, whole_at, if_read, unless_bad, inside, value_of}
+use Rattle.osh_value.specs.Values.{Inside, unquoted, content_by, content_of, schema_value, delim_value, missing_named, new_name_at, has_old, rename_at, renames_at, width_at, widths_at, greatest_case, signed_case, has_case, case_at, cases_at, kept_expression, set_value, with_commas, said_at, whole_at, if_read, unless_bad, inside, value_of}
 use Rattle.osh_value.proofs.Names.{tested_name}
 use Rattle.osh_read.specs.Options.{is_value}
-use Rattle.osh_sound.specs.ValueLaws.{IsPair, OldDiffer, IsResult, AreWidths, ArePairs, AreColumns, AreKeys}
+use Rattle.osh_sound.specs.ValueLaws.{IsPair, OldDiffer, CasesDiffer, IsResult, AreWidths, ArePairs, AreCases, AreColumns, AreKeys}
 use Rattle.osh_sound.proofs.Fronts.{sort_taken, expect_taken}
-use Rattle.osh_back.specs.Spelled.{IsDelimiter, IsDataSet}
+use Rattle.osh_sound.proofs.ExpressionsBack.{read_expression, kept_spanned}
+use Rattle.osh_sound.proofs.SetsBack.{set_read}
+use Rattle.osh_back.specs.Spelled.{IsDelimiter, IsDataSet, ExpressionFits, SetFits}
+use Rattle.osh_back.proofs.Quotables.{Lacks, OneQuote, one_drop, one_spanned, one_quotable}
 use Rattle.osh_back.proofs.ReadLists.{SoundIn, text_sound, word_at, sound_behind, read_columns, read_keys}
 
 -- what is said by a value of each form
@@ -62,6 +67,9 @@ GoodValue form.Min (value.Result r) = IsResult r
 GoodValue form.Max (value.Result r) = IsResult r
 GoodValue form.First (value.Result r) = IsResult r
 GoodValue form.Last (value.Result r) = IsResult r
+GoodValue form.Expression (value.Expression kept) = ExpressionFits kept
+GoodValue form.Setting (value.Set s) = SetFits s
+GoodValue form.Cases (value.Cases cases) = AreCases cases
 GoodValue f v = ⊥
 
 some_is : {A : Type 0} (x y : A) → (let o : Option A = Some x in o) ≡ Some y → x ≡ y
@@ -165,6 +173,74 @@ pair_steps found p ts rest q s h =
 read_renames : (ts rest : List Lexeme) (pairs : List (List ℕ × List ℕ)) → SoundIn Inner ts → renames_at ts ≡ Ok (pairs, rest) → ArePairs pairs
 read_renames ts rest pairs s h = let k = commas_hold rename_at Pairs pair_steps (length ts) [] pairs ts rest (tt, tt) s h in record { some = k.0; each = k.1.0; differ = k.1.1 }
 
+-- ---- cases
+
+cases_one_more : (before cases : List ℤ) (z : ℤ) → CasesDiffer before cases → has_case (before ++ cases) z ≡ false → CasesDiffer before (cases ++ z ∷ [])
+cases_one_more before [] z d h = (subst (λ (xs : List ℤ). has_case xs z ≡ false) (append-nil before) h, tt)
+cases_one_more before (y ∷ cases) z d h = (d.0, cases_one_more (before ++ y ∷ []) cases z d.1 (subst (λ (xs : List ℤ). has_case xs z ≡ false) (sym (append_assoc before (y ∷ []) cases)) h))
+
+-- what stands where a word doesn't come
+left_alone : (bytes : List ℕ) (ts us : List Lexeme) → accept_at bytes ts ≡ (false, us) → ts ≡ us
+unfolding accept_at
+left_alone bytes [] us h = ap (λ (p : Bool × List Lexeme). p.1) h
+left_alone bytes (t ∷ ts) us h = by (bytes_eq t.bytes bytes) h
+  where
+    by : (b : Bool) → (let p : Bool × List Lexeme = if b then (true, ts) else (false, t ∷ ts) in p) ≡ (false, us) → t ∷ ts ≡ us
+    by true e = absurd (let k : true ≡ false = ap (λ (p : Bool × List Lexeme). p.0) e in cc)
+    by false e = ap (λ (p : Bool × List Lexeme). p.1) e
+
+case_ranges : (minus : Bool) (n : ℕ) → n ≤ greatest_case minus → FitsSigned w64 (signed_case minus n)
+case_ranges true zero h = omega arith
+case_ranges true (suc n) h = omega arith
+case_ranges false n h = omega arith
+
+-- a number behind an optional `-`, where it fits and is new
+abbrev case_behind : List ℤ → Bool → Lexeme → List Lexeme → Inside ℤ
+case_behind found minus t us = do
+  fits ← if is_size 0 (greatest_case minus) t.bytes then Ok t else refuse t tt
+  new ← if has_case found (signed_case minus (digits_value 10 t.bytes)) then refuse t tt else Ok t
+  Ok (signed_case minus (digits_value 10 t.bytes), us)
+
+case_by : (found : List ℤ) (minus : Bool) (t : Lexeme) (us rest : List Lexeme) (z : ℤ) → case_behind found minus t us ≡ Ok (z, rest) → FitsSigned w64 z × (has_case found z ≡ false) × (us ≡ rest)
+case_by found minus t us rest z h =
+    let n = digits_value 10 t.bytes in
+    let most = greatest_case minus in
+    let a = bind_ok (let r : Result Lexeme (Refusal (Unit {0})) = if is_size 0 most t.bytes then Ok t else refuse t tt in r) _ (z, rest) h in
+    let size = (taken (is_size 0 most t.bytes) t a.0 _ a.1).0 in
+    let b = passed (has_case found (signed_case minus n)) t _ _ (z, rest) a.2 in
+    let parts = ok_parts (signed_case minus n, us) (z, rest) b.1 in
+    let digits = second_so (nat_lt 0 (length t.bytes)) (list_all is_digit t.bytes && (nat_le 0 n && nat_le n most)) size in
+    let range = second_so (list_all is_digit t.bytes) (nat_le 0 n && nat_le n most) digits in
+    let high = leb-true n most (second_so (nat_le 0 n) (nat_le n most) range) in
+    (subst (FitsSigned w64) parts.0 (case_ranges minus n high), ap (has_case found) (sym parts.0) ∙ b.0, parts.1)
+
+case_step : (found : List ℤ) (ts rest : List Lexeme) (z : ℤ) → SoundIn Inner ts → case_at found ts ≡ Ok (z, rest) → (FitsSigned w64 z × (has_case found z ≡ false)) × SoundIn Inner rest
+unfolding case_at
+case_step found ts rest z s h = by (accept_at (codes "-") ts) refl h
+  where
+    number : (minus : Bool) (us : List Lexeme) → SoundIn Inner us → (sort_at sort.Number (tt {0}) us >>= λ n. case_behind found minus n.0 n.1) ≡ Ok (z, rest) → (FitsSigned w64 z × (has_case found z ≡ false)) × SoundIn Inner rest
+    number minus us k g =
+        let a = bind_ok (sort_at sort.Number (tt {0}) us) _ (z, rest) g in
+        let step = sort_step sort.Number us a.0.1 a.0.0 k a.1 in
+        let read = case_by found minus a.0.0 a.0.1 rest z a.2 in
+        ((read.0, read.1), subst (SoundIn Inner) read.2 step.2)
+
+    by : (p : Bool × List Lexeme) → accept_at (codes "-") ts ≡ p → (sort_at sort.Number (tt {0}) p.1 >>= λ n. case_behind found p.0 n.0 n.1) ≡ Ok (z, rest) → (FitsSigned w64 z × (has_case found z ≡ false)) × SoundIn Inner rest
+    by (true, us) e g = number true us (sound_behind Inner (codes "-") ts us s (accepted (codes "-") ts us e)) g
+    by (false, us) e g = number false us (subst (SoundIn Inner) (left_alone (codes "-") ts us e) s) g
+
+abbrev Cases : List ℤ → Type 0
+Cases cases = AllByRecursion (FitsSigned w64) cases × CasesDiffer [] cases
+
+case_steps : Steps case_at Cases
+unfolding Steps
+case_steps found z ts rest q s h =
+    let k = case_step found ts rest z s h in
+    ((all_append (FitsSigned w64) found (z ∷ []) q.0 (k.0.0, tt), cases_one_more [] found z q.1 k.0.1), k.1)
+
+read_cases : (ts rest : List Lexeme) (cases : List ℤ) → SoundIn Inner ts → cases_at ts ≡ Ok (cases, rest) → AreCases cases
+read_cases ts rest cases s h = let k = commas_hold case_at Cases case_steps (length ts) [] cases ts rest (tt, tt) s h in record { some = k.0; each = k.1.0; differ = k.1.1 }
+
 -- ---- values that are read as tokens
 
 as_good : (f : Form) (v w : OptValue) (us rest : List Lexeme) → GoodValue f v → (let r : Inside OptValue = Ok (v, us) in r) ≡ Ok (w, rest) → GoodValue f w
@@ -175,6 +251,7 @@ said_good form.Widths ts rest v s h = let a = bind_ok (widths_at ts) _ (v, rest)
 said_good form.Columns ts rest v s h = let a = bind_ok (names_at {W = Unit {0}} tt ts) _ (v, rest) h in as_good form.Columns (value.Columns a.0.0) v a.0.1 rest (read_columns Inner a.0.0 ts a.0.1 s (names_stand tt ts a.0.1 a.0.0 a.1)) a.2
 said_good form.Keys ts rest v s h = let a = bind_ok (keys_at {W = Unit {0}} tt ts) _ (v, rest) h in as_good form.Keys (value.Keys a.0.0) v a.0.1 rest (read_keys Inner a.0.0 ts a.0.1 s (keys_stand tt ts a.0.1 a.0.0 a.1)) a.2
 said_good form.Renames ts rest v s h = let a = bind_ok (renames_at ts) _ (v, rest) h in as_good form.Renames (value.Renames a.0.0) v a.0.1 rest (read_renames ts a.0.1 a.0.0 s a.1) a.2
+said_good form.Cases ts rest v s h = let a = bind_ok (cases_at ts) _ (v, rest) h in as_good form.Cases (value.Cases a.0.0) v a.0.1 rest (read_cases ts a.0.1 a.0.0 s a.1) a.2
 said_good form.Count ts rest v s h = let a = bind_ok (new_name_at ts) _ (v, rest) h in as_good form.Count (value.Result (agg.Count a.0.0)) v a.0.1 rest (new_name_step ts a.0.1 a.0.0 s a.1).0 a.2
 said_good form.Sum ts rest v s h = let a = bind_ok (rename_at [] ts) _ (v, rest) h in as_good form.Sum (value.Result (agg.Sum a.0.0.0 a.0.0.1)) v a.0.1 rest (rename_step [] ts a.0.1 a.0.0 s a.1).0.0 a.2
 said_good form.Min ts rest v s h = let a = bind_ok (rename_at [] ts) _ (v, rest) h in as_good form.Min (value.Result (agg.Min a.0.0.0 a.0.0.1)) v a.0.1 rest (rename_step [] ts a.0.1 a.0.0 s a.1).0.0 a.2
@@ -230,17 +307,31 @@ missing_good : (o : Option Missing) (v : OptValue) → option_map value.Missing 
 missing_good None v h = absurd cc
 missing_good (Some m) v h = subst (GoodValue form.Missing) (some_is (value.Missing m) v h) tt
 
-value_good : (f : Form) (bytes : List ℕ) (v : OptValue) → list_all is_text_byte bytes ≡ true → value_of f bytes ≡ Some v → GoodValue f v
+-- what is kept of an expression in a value
+kept_fits : (text kept : List ℕ) → OneQuote text → kept_expression text ≡ Some kept → ExpressionFits kept
+kept_fits text kept q h = (read_expression text kept h, one_quotable kept (subst OneQuote (sym (kept_spanned text kept h)) (one_spanned text (lexed_text Inner text).lexemes q)))
+
+expression_good : (bytes : List ℕ) (v : OptValue) (o : Option (List ℕ)) → OneQuote bytes → kept_expression bytes ≡ o → option_map value.Expression o ≡ Some v → GoodValue form.Expression v
+expression_good bytes v None q e h = absurd cc
+expression_good bytes v (Some kept) q e h = subst (GoodValue form.Expression) (some_is (value.Expression kept) v h) (kept_fits bytes kept q e)
+
+set_good : (bytes : List ℕ) (v : OptValue) (o : Option SetSpec) → OneQuote bytes → set_value bytes ≡ o → option_map value.Set o ≡ Some v → GoodValue form.Setting v
+set_good bytes v None q e h = absurd cc
+set_good bytes v (Some s) q e h =
+    let r = set_read bytes s e in
+    subst (GoodValue form.Setting) (some_is (value.Set s) v h) (r.field, kept_fits (drop r.place bytes) s.expr (one_drop r.place bytes q) r.expr)
+
+value_good : (f : Form) (bytes : List ℕ) (v : OptValue) → OneQuote bytes → value_of f bytes ≡ Some v → GoodValue f v
 unfolding value_of
 value_good form.Flag bytes v t h = absurd cc
 value_good form.File bytes v t h = file_good bytes v (is_name bytes) refl h
 value_good form.DataSet bytes v t h = data_set_good bytes v (nat_le (length bytes) 252) (is_name bytes) refl refl h
 value_good form.Schema bytes v t h = schema_good bytes v (schema_of bytes) refl h
-value_good form.Delim bytes v t h = delim_good bytes v t h
+value_good form.Delim bytes v t h = delim_good bytes v t.texts h
 value_good form.Missing bytes v t h = missing_good (missing_named bytes) v h
-value_good form.Expression bytes v t h = absurd cc
-value_good form.Setting bytes v t h = absurd cc
-value_good form.Cases bytes v t h = absurd cc
+value_good form.Expression bytes v t h = expression_good bytes v (kept_expression bytes) t refl h
+value_good form.Setting bytes v t h = set_good bytes v (set_value bytes) t refl h
+value_good form.Cases bytes v t h = inside_good form.Cases bytes v h
 value_good form.Widths bytes v t h = inside_good form.Widths bytes v h
 value_good form.Columns bytes v t h = inside_good form.Columns bytes v h
 value_good form.Renames bytes v t h = inside_good form.Renames bytes v h
@@ -288,11 +379,43 @@ quoted_bytes bytes h =
     subst (λ xs. list_all is_text_byte xs ≡ true) (sym (ap unquoted h.parts ∙ unquoted_back h.quote h.inside))
     (all_text (λ b. is_text_byte b && not (b == h.quote)) (λ b k. first_so (is_text_byte b) (not (b == h.quote)) k) h.inside h.each)
 
-content_by_text : (s : Sort) (bytes : List ℕ) → is_value s ≡ true → IsToken Osh s bytes → list_all is_text_byte (content_by s bytes) ≡ true
-content_by_text sort.Word bytes v h = word_bytes bytes h
-content_by_text sort.Number bytes v h = number_bytes bytes h
-content_by_text sort.Quoted bytes v h = quoted_bytes bytes h
-content_by_text other bytes v h = absurd cc
+word_one : (b : ℕ) → is_word_byte b ≡ true → not (b == 34) ≡ true
+word_one b h = grind (arith, nat_tests)
+
+opens_one : (b : ℕ) → opens_word b ≡ true → not (b == 34) ≡ true
+opens_one b h = grind (arith, nat_tests)
+
+digit_one : (b : ℕ) → is_digit b ≡ true → not (b == 34) ≡ true
+digit_one b h = grind (arith, nat_tests)
+
+all_lack : (p q : ℕ → Bool) → ((b : ℕ) → p b ≡ true → q b ≡ true) → (bytes : List ℕ) → list_all p bytes ≡ true → list_all q bytes ≡ true
+all_lack p q f [] h = refl
+all_lack p q f (b ∷ bytes) h = and_from (q b) (list_all q bytes) (f b (first_so (p b) (list_all p bytes) h)) (all_lack p q f bytes (second_so (p b) (list_all p bytes) h))
+
+word_lacks : (bytes : List ℕ) → IsWord bytes → Lacks 34 bytes
+word_lacks [] h = refl
+word_lacks (b ∷ bytes) h = and_from (not (b == 34)) (list_all (λ c. not (c == 34)) bytes) (opens_one b h.0) (all_lack is_word_byte (λ c. not (c == 34)) word_one bytes h.1)
+
+number_lacks : (bytes : List ℕ) → IsNumber bytes → Lacks 34 bytes
+number_lacks bytes h =
+    elim h [
+      | inl a ↦ all_lack is_digit (λ c. not (c == 34)) digit_one bytes a.1
+      | inr c ↦ subst (Lacks 34) (sym c.2) (list_all-append (λ x. not (x == 34)) c.0 (46 ∷ c.1) ∙ and_from (list_all (λ x. not (x == 34)) c.0) (list_all (λ x. not (x == 34)) (46 ∷ c.1)) (all_lack is_digit (λ x. not (x == 34)) digit_one c.0 c.3.1) (all_lack is_digit (λ x. not (x == 34)) digit_one c.1 c.4.1))
+    ]
+
+quoted_lacks : (bytes : List ℕ) → IsQuoted bytes → Lacks 34 (unquoted bytes) ⊎ Lacks 39 (unquoted bytes)
+quoted_lacks bytes h =
+    let lacks : Lacks h.quote (unquoted bytes) = subst (Lacks h.quote) (sym (ap unquoted h.parts ∙ unquoted_back h.quote h.inside)) (all_lack (λ b. is_text_byte b && not (b == h.quote)) (λ b. not (b == h.quote)) (λ b k. second_so (is_text_byte b) (not (b == h.quote)) k) h.inside h.each) in
+    elim (or_cases (h.quote == 34) (h.quote == 39) h.opens) [
+      | inl e ↦ inl (subst (λ n. Lacks n (unquoted bytes)) (eqb-true h.quote 34 e) lacks)
+      | inr e ↦ inr (subst (λ n. Lacks n (unquoted bytes)) (eqb-true h.quote 39 e) lacks)
+    ]
+
+content_one : (s : Sort) (bytes : List ℕ) → is_value s ≡ true → IsToken Osh s bytes → OneQuote (content_by s bytes)
+content_one sort.Word bytes v h = record { texts = word_bytes bytes h; lacks = inl (word_lacks bytes h) }
+content_one sort.Number bytes v h = record { texts = number_bytes bytes h; lacks = inl (number_lacks bytes h) }
+content_one sort.Quoted bytes v h = record { texts = quoted_bytes bytes h; lacks = quoted_lacks bytes h }
+content_one other bytes v h = absurd cc
 
 pub token_good : (f : Form) (v : OptValue) (t : Lexeme) → IsToken Osh t.sort t.bytes → is_value t.sort ≡ true → value_of f (content_of t) ≡ Some v → GoodValue f v
-token_good f v t s e h = value_good f (content_of t) v (content_by_text t.sort t.bytes e s) h
+token_good f v t s e h = value_good f (content_of t) v (content_one t.sort t.bytes e s) h

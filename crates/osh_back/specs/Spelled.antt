@@ -3,17 +3,19 @@ use Rattle.std.specs.Prelude.{◌≡◌, ◌≤◌, ◌<◌, ◌+◌, ◌==◌, 
 use Rattle.std.specs.List.{AllByRecursion}
 use Rattle.ds_value.specs.Names.{IsName}
 use Rattle.ds_lex.specs.Pieces.{is_text_byte}
-use Rattle.ds_schema.specs.Schemas.{IsSchema}
+use Rattle.ds_schema.specs.Schemas.{IsField, IsSchema}
 use Rattle.flow_graph.specs.declared.flow.Method.{Method}
 use Rattle.flow_graph.specs.declared.flow.Method.TheVariants as method
 use Rattle.flow_graph.specs.declared.flow.LinkSpec.{LinkSpec}
 use Rattle.flow_graph.specs.declared.flow.OpSpec.{OpSpec}
 use Rattle.flow_graph.specs.declared.flow.Flow.{Flow}
+use Rattle.flow_graph.specs.declared.op_kind.SetSpec.{SetSpec}
 use Rattle.flow_graph.specs.declared.op_kind.OpKind.{OpKind}
 use Rattle.flow_graph.specs.declared.op_kind.OpKind.TheVariants as kind
 use Rattle.osh_print.specs.LinkText.{leaves}
 use Rattle.osh_sound.specs.Sound.{MarkFits}
-use Rattle.osh_sound.specs.ValueLaws.{IsColumn, IsResult, AreWidths, ArePairs, AreColumns, AreKeys}
+use Rattle.osh_sound.specs.ValueLaws.{IsColumn, IsResult, IsExpression, AreWidths, ArePairs, AreCases, AreColumns, AreKeys}
+use Rattle.osh_sound.specs.OptionLaws.{IsQuotable}
 
 -- ---- operators
 
@@ -42,6 +44,13 @@ abbrev pub KeepsOrDrops : List (List ℕ) → List (List ℕ) → Type 0
 KeepsOrDrops [] drop = Maybe AreColumns drop
 KeepsOrDrops (name ∷ keep) drop = AreColumns (name ∷ keep) × (drop ≡ [])
 
+-- what is kept of an expression, which can stand between quotes
+abbrev pub ExpressionFits : List ℕ → Type 0
+ExpressionFits kept = IsExpression kept × IsQuotable kept
+
+abbrev pub SetFits : SetSpec → Type 0
+SetFits s = IsField s.field × ExpressionFits s.expr
+
 -- the options of an operator have their forms, those that it must have are there, and none excludes another
 abbrev pub KindFits : OpKind → Type 0
 KindFits (kind.Import file schema delim fixed reject) = IsName file × IsSchema schema × FormFits delim fixed
@@ -49,9 +58,9 @@ KindFits (kind.Export file delim fixed) = IsName file × FormFits delim fixed
 KindFits (kind.Dsread ds) = IsDataSet ds
 KindFits (kind.Dswrite ds) = IsDataSet ds
 KindFits kind.Copy = Unit {0}
-KindFits (kind.Filter test reject) = ⊥
-KindFits (kind.Transform set reject) = ⊥
-KindFits (kind.Switch on cases reject) = ⊥
+KindFits (kind.Filter test reject) = ExpressionFits test
+KindFits (kind.Transform set reject) = (1 ≤ length set) × AllByRecursion SetFits set
+KindFits (kind.Switch on cases reject) = ExpressionFits on × AreCases cases
 KindFits (kind.Modify keep drop rename) = KeepsOrDrops keep drop × Maybe ArePairs rename × (1 ≤ length keep + length drop + length rename)
 KindFits (kind.Tsort key) = AreKeys key
 KindFits (kind.Remdup key last) = AreKeys key

@@ -2,8 +2,8 @@ use osh_print::print_flow;
 use osh_read::read_flow;
 use std::test::Fail;
 
-// Each option of each operator that is read, as it is printed.
-const STAGES: [&str; 22] = [
+// Each option of each operator, as it is printed.
+const STAGES: [&str; 27] = [
     "import -file \"a\" -schema \"record ( a: int32; )\" -delim \";\" -reject",
     "import -file \"a\" -schema \"record ( a: date; )\" -fixed \"10\"",
     "export -file \"a\" -delim \"|\"",
@@ -11,6 +11,11 @@ const STAGES: [&str; 22] = [
     "dsread -ds \"a\"",
     "dswrite -ds \"a\"",
     "copy [seq]",
+    "filter -where \"a > 1 && b == 'x'\" -reject",
+    "filter -where '-(a + 1) * 2 == length(\"x\") /* 1 */ + 1'",
+    "transform -set \"a: int32 = a + 1\" -set 'b: nullable decimal[8,2] = if(a == 1, c, \"x\")' -reject",
+    "switch -on \"a % 3\" -cases \"1,-2,0\" -reject",
+    "switch -on \"a\" -cases \"-9223372036854775808,9223372036854775807\"",
     "modify -keep \"a,b\" -rename \"c=d,e=f\"",
     "modify -drop \"a\"",
     "tsort -key \"a desc,b\"",

@@ -1,11 +1,12 @@
 -- Operators with their options, as they are printed: every value in quotes, and what stands by default left out.
-use Rattle.std.specs.Prelude.{ℕ, List, [], ◌∷◌, ◌++◌, Option, Some, None, Bool, true, false, ◌==◌, if◌then◌else◌, codes}
+use Rattle.std.specs.Prelude.{ℕ, ℤ, List, [], ◌∷◌, ◌++◌, Option, Some, None, Bool, true, false, ◌==◌, if◌then◌else◌, codes}
 use Rattle.std.specs.List.{flat_map, list_any}
-use Rattle.std.specs.Fmt.{decimal}
+use Rattle.std.specs.Fmt.{decimal, signed_decimal}
 use Rattle.op_base.specs.declared.missing.Missing.{Missing}
 use Rattle.op_base.specs.declared.missing.Missing.TheVariants as missing
-use Rattle.ds_schema.specs.SchemaText.{schema_text}
+use Rattle.ds_schema.specs.SchemaText.{kind_text, nullable_text, schema_text}
 use Rattle.ds_schema.specs.ColumnText.{names_text, keys_text}
+use Rattle.flow_graph.specs.declared.op_kind.SetSpec.{SetSpec}
 use Rattle.flow_graph.specs.declared.op_kind.AggSpec.{AggSpec}
 use Rattle.flow_graph.specs.declared.op_kind.AggSpec.TheVariants as agg
 use Rattle.flow_graph.specs.declared.op_kind.OpKind.{OpKind}
@@ -35,6 +36,10 @@ with_commas text (x ∷ xs) = text x ++ flat_map (λ y. codes "," ++ text y) xs
 
 abbrev pub pair_text : List ℕ × List ℕ → List ℕ
 pair_text pair = pair.0 ++ (codes "=" ++ pair.1)
+
+-- the field as in a schema, then its expression
+abbrev pub set_text : SetSpec → List ℕ
+set_text s = s.field.name ++ (codes ": " ++ (nullable_text s.field.nullable ++ (kind_text s.field.kind ++ (codes " = " ++ s.expr))))
 
 abbrev pub missing_word : Missing → List ℕ
 missing_word missing.Continue = codes "continue"
@@ -88,6 +93,13 @@ result_text (agg.Last new old) = option_text opt.Last (pair_text (new, old))
 
 abbrev pub results_text : List AggSpec → List ℕ
 results_text results = flat_map result_text results
+
+-- one option for each column that is set, in the written order
+abbrev pub sets_text : List SetSpec → List ℕ
+sets_text sets = flat_map (λ s. option_text opt.Set (set_text s)) sets
+
+abbrev pub cases_text : List ℤ → List ℕ
+cases_text cases = option_text opt.Cases (with_commas signed_decimal cases)
 
 -- ---- operators
 
@@ -144,8 +156,11 @@ behind_key (kind.Lookup key missing) = missing_text missing
 behind_key (kind.Changecapture key values keepcopy) = columns_option opt.Values values ++ flag_text opt.Keepcopy keepcopy
 behind_key other = []
 
--- the options of an operator, in the order of the table; those of operators with expressions aren't printed yet
+-- the options of an operator, in the order of the table
 abbrev pub options_text : OpKind → List ℕ
+options_text (kind.Filter test reject) = option_text opt.Where test ++ flag_text opt.Reject reject
+options_text (kind.Transform set reject) = sets_text set ++ flag_text opt.Reject reject
+options_text (kind.Switch on cases reject) = option_text opt.On on ++ (cases_text cases ++ flag_text opt.Reject reject)
 options_text (kind.Modify keep drop rename) = columns_option opt.Keep keep ++ (columns_option opt.Drop drop ++ renames_option rename)
 options_text (kind.Funnel sequence sort) = flag_text opt.Sequence sequence ++ keys_option opt.Sort sort
 options_text other = ends_text other ++ (keys_option opt.Key (key_of other) ++ behind_key other)

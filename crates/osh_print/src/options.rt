@@ -3,12 +3,14 @@
 ghost use Rattle.std.specs.Prelude.{◌≡◌, ◌++◌, OnOk};
 ghost use Rattle.ds_schema.specs.SchemaText.{schema_text};
 ghost use Rattle.osh_table.specs.declared.option.OptName.TheVariants as opt;
-ghost use Rattle.osh_print.specs.OptionText.{behind_key, columns_option, delim_text, ends_text, flag_text, key_of, keys_option, missing_text, name_of, option_text, options_text, pair_text, renames_option, result_text, results_text, widths_text};
+ghost use Rattle.osh_print.specs.OptionText.{behind_key, cases_text, columns_option, delim_text, ends_text, flag_text, key_of, keys_option, missing_text, name_of, option_text, options_text, pair_text, renames_option, result_text, results_text, set_text, sets_text, widths_text};
 
-use crate::value::{append_option, missing_word, print_pairs, print_widths};
+use crate::value::{
+    append_option, missing_word, print_cases, print_pairs, print_set, print_widths,
+};
 use ds_schema::{Schema, print_keys, print_names, print_schema};
 use ds_value::{Bytes, Items, Name, NoMemory};
-use flow_graph::{AggSpec, OpKind};
+use flow_graph::{AggSpec, OpKind, SetSpec};
 use op_base::Missing;
 use osh_table::{OpName, OptName, option_word};
 use std::alloc::Global;
@@ -148,6 +150,29 @@ fn append_results(alloc: Global, text: &mut Bytes, results: &[AggSpec]) -> Resul
         append_result(alloc, text, spec)?;
     }
     Ok(())
+}
+
+fn append_set(alloc: Global, text: &mut Bytes, spec: &SetSpec) -> Result<(), NoMemory>
+    ensures { OnOk result (text.new ≡ text.old ++ option_text opt.Set (set_text spec.now)) }
+{
+    let printed = print_set(alloc, spec)?;
+    append_option(text, OptName::Set, printed.as_slice())
+}
+
+fn append_sets(alloc: Global, text: &mut Bytes, sets: &[SetSpec]) -> Result<(), NoMemory>
+    ensures { OnOk result (text.new ≡ text.old ++ sets_text sets.now) }
+{
+    for spec in sets {
+        append_set(alloc, text, spec)?;
+    }
+    Ok(())
+}
+
+fn append_cases(alloc: Global, text: &mut Bytes, cases: &[i64]) -> Result<(), NoMemory>
+    ensures { OnOk result (text.new ≡ text.old ++ cases_text cases.now) }
+{
+    let printed = print_cases(alloc, cases)?;
+    append_option(text, OptName::Cases, printed.as_slice())
 }
 
 /// The operator's name.
@@ -312,6 +337,19 @@ pub fn append_options(alloc: Global, text: &mut Bytes, kind: &OpKind) -> Result<
     ensures { OnOk result (text.new ≡ text.old ++ options_text kind.now) }
 {
     match kind {
+        OpKind::Filter { test, reject } => {
+            append_option(text, OptName::Where, test.as_slice())?;
+            append_flag(text, OptName::Reject, *reject)
+        }
+        OpKind::Transform { set, reject } => {
+            append_sets(alloc, text, set.as_slice())?;
+            append_flag(text, OptName::Reject, *reject)
+        }
+        OpKind::Switch { on, cases, reject } => {
+            append_option(text, OptName::On, on.as_slice())?;
+            append_cases(alloc, text, cases.as_slice())?;
+            append_flag(text, OptName::Reject, *reject)
+        }
         OpKind::Modify { keep, drop, rename } => {
             append_columns(alloc, text, OptName::Keep, keep.as_slice())?;
             append_columns(alloc, text, OptName::Drop, drop.as_slice())?;

@@ -2,8 +2,8 @@ ghost use Rattle.std.specs.Prelude.{◌<◌};
 
 use crate::print_flow;
 use ds_schema::{Schema, read_schema};
-use ds_value::{Items, Name};
-use flow_graph::{AggSpec, Flag, Flow, LinkSpec, Mark, Method, OpKind, OpSpec};
+use ds_value::{Bytes, Copied, Items, Name};
+use flow_graph::{AggSpec, Flag, Flow, LinkSpec, Mark, Method, OpKind, OpSpec, SetSpec};
 use op_base::Missing;
 use osh_read::read_flow;
 use std::alloc::Global;
@@ -38,6 +38,14 @@ const SCHEMAS: [&str; 3] = [
     "record ( id: int32; name: string[max=10]; )",
     "record ( a: nullable decimal[8,2]; b: date; c: string[3] )",
     "record(x:uint64)",
+];
+
+const EXPRESSIONS: [&str; 5] = [
+    "a",
+    "a + 1 /* one */ * -b",
+    "b == 'x' && !(a < 2.5)",
+    "concat(c, \"x y\")",
+    "12",
 ];
 
 /// A name that begins with the letter of this number.
@@ -213,10 +221,55 @@ fn other(alloc: Global, random: &mut Random) -> Result<OpKind, Fail> {
     })
 }
 
+/// What is kept of an expression.
+fn expression(alloc: Global, random: &mut Random) -> Result<Bytes, Fail> {
+    let text = EXPRESSIONS
+        .get(random.below(5) as usize)
+        .ok_or("expression")?;
+    bytes(alloc, text)
+}
+
+fn sets(alloc: Global, random: &mut Random) -> Result<Items<SetSpec>, Fail> {
+    let mut sets = Items::new(alloc);
+    for _count in 0..1 + random.below(3) {
+        let schema = schema(alloc, random)?;
+        let field = schema.as_slice().first().ok_or("field")?.copied()?;
+        let expr = expression(alloc, random)?;
+        sets.push(SetSpec { field, expr })?;
+    }
+    Ok(sets)
+}
+
+fn with_expressions(alloc: Global, random: &mut Random) -> Result<OpKind, Fail> {
+    Ok(match random.below(3) {
+        0 => OpKind::Filter {
+            test: expression(alloc, random)?,
+            reject: random.coin(),
+        },
+        1 => OpKind::Transform {
+            set: sets(alloc, random)?,
+            reject: random.coin(),
+        },
+        _ => {
+            let mut cases = Items::new(alloc);
+            for index in 0..1 + random.below(3) {
+                let case = index as i64 * 5;
+                cases.push(if random.coin() { case } else { -1 - case })?;
+            }
+            OpKind::Switch {
+                on: expression(alloc, random)?,
+                cases,
+                reject: random.coin(),
+            }
+        }
+    })
+}
+
 fn spec(alloc: Global, random: &mut Random) -> Result<OpSpec, Fail> {
-    let kind = match random.below(3) {
+    let kind = match random.below(4) {
         0 => ends(alloc, random)?,
         1 => keyed(alloc, random)?,
+        2 => with_expressions(alloc, random)?,
         _ => other(alloc, random)?,
     };
     let mark = match &kind {
@@ -303,6 +356,96 @@ fn flows_read_back(rt: HostRuntime) -> Result<(), Fail> {
         let seen = format!(in alloc; "{flow:?}")?;
         let read = format!(in alloc; "{again:?}")?;
         assert!(rt; seen.as_str() == read.as_str(), "{seen}");
+    }
+    Ok(())
+}
+
+fn bytes(alloc: Global, text: &str) -> Result<Bytes, Fail> {
+    let mut bytes = Bytes::new(alloc);
+    bytes.append(text.as_bytes())?;
+    Ok(bytes)
+}
+
+fn set(alloc: Global, schema: &str, expr: &str) -> Result<SetSpec, Fail> {
+    let schema = read_schema(alloc, schema.as_bytes())?;
+    let field = schema.as_slice().first().ok_or("field")?.copied()?;
+    Ok(SetSpec {
+        field,
+        expr: bytes(alloc, expr)?,
+    })
+}
+
+fn transform(alloc: Global) -> Result<OpKind, Fail> {
+    let mut sets = Items::new(alloc);
+    sets.push(set(alloc, "record(b:int32)", "a + 1")?)?;
+    sets.push(set(alloc, "record(c:nullable decimal[8])", "\"x\"")?)?;
+    sets.push(set(alloc, "record(a:string[max=5])", "'x'")?)?;
+    sets.push(set(alloc, "record(d:string[3])", "b")?)?;
+    Ok(OpKind::Transform {
+        set: sets,
+        reject: true,
+    })
+}
+
+fn switch(alloc: Global) -> Result<OpKind, Fail> {
+    let mut cases = Items::new(alloc);
+    for case in [1_i64, -2, 0, i64::MIN, i64::MAX] {
+        cases.push(case)?;
+    }
+    Ok(OpKind::Switch {
+        on: bytes(alloc, "a % 3")?,
+        cases,
+        reject: false,
+    })
+}
+
+fn filter(alloc: Global, test: &str, reject: bool) -> Result<OpKind, Fail> {
+    Ok(OpKind::Filter {
+        test: bytes(alloc, test)?,
+        reject,
+    })
+}
+
+/// The printed text of an operator alone.
+fn printed(alloc: Global, kind: OpKind) -> Result<Bytes, Fail> {
+    let mut ops = Items::new(alloc);
+    ops.push(OpSpec {
+        kind,
+        mark: Mark::Par,
+    })?;
+    let flow = Flow {
+        nopart: false,
+        nosort: false,
+        ops,
+        links: Items::new(alloc),
+    };
+    Ok(print_flow(alloc, &flow)?)
+}
+
+#[test]
+fn expressions_are_printed(rt: HostRuntime) -> Result<(), Fail> {
+    let alloc = rt.alloc();
+    let cases = [
+        (
+            filter(alloc, "a == 'x'", true)?,
+            "filter -where \"a == 'x'\" -reject;\n",
+        ),
+        (
+            filter(alloc, "a == \"x\"", false)?,
+            "filter -where 'a == \"x\"';\n",
+        ),
+        (
+            transform(alloc)?,
+            "transform -set \"b: int32 = a + 1\" -set 'c: nullable decimal[8,0] = \"x\"' -set \"a: string[max=5] = 'x'\" -set \"d: string[3] = b\" -reject;\n",
+        ),
+        (
+            switch(alloc)?,
+            "switch -on \"a % 3\" -cases \"1,-2,0,-9223372036854775808,9223372036854775807\";\n",
+        ),
+    ];
+    for (kind, wanted) in cases {
+        let text = printed(alloc, kind)?;
+        assert!(rt; text.as_slice() == wanted.as_bytes(), "{wanted}");
     }
     Ok(())
 }

@@ -1,10 +1,12 @@
 //! Printing values.
 
 ghost use Rattle.std.specs.Prelude.{◌≡◌, ◌++◌, ◌∷◌, [], OnOk, IfOk, string_bytes};
-ghost use Rattle.std.specs.Fmt.{decimal};
-ghost use Rattle.osh_print.specs.OptionText.{has_quote, missing_word, option_text, pair_text, quote_of, quoted, with_commas};
+ghost use Rattle.std.specs.Fmt.{decimal, signed_decimal};
+ghost use Rattle.ds_schema.specs.SchemaText.{kind_text};
+ghost use Rattle.osh_print.specs.OptionText.{has_quote, missing_word, option_text, pair_text, quote_of, quoted, set_text, with_commas};
 
-use ds_value::{Bytes, Name, NoMemory};
+use ds_value::{Bytes, Kind, Name, NoMemory};
+use flow_graph::SetSpec;
 use op_base::Missing;
 use osh_table::{OptName, option_word};
 use std::alloc::{AllocError, Global};
@@ -88,6 +90,60 @@ pub fn print_pairs(alloc: Global, pairs: &[(Name, Name)]) -> Result<Bytes, NoMem
         text.append(b",")?;
         append_pair(&mut text, pair)?;
     }
+    Ok(text)
+}
+
+fn append_case(alloc: Global, text: &mut Bytes, case: i64) -> Result<(), NoMemory>
+    ensures { OnOk result (text.new ≡ text.old ++ signed_decimal case) }
+{
+    let number = format!(in alloc; "{case}")?;
+    text.append(number.as_bytes())
+}
+
+pub fn print_cases(alloc: Global, cases: &[i64]) -> Result<Bytes, NoMemory>
+    ensures { IfOk result (λ text. text ≡ with_commas signed_decimal cases.now) }
+{
+    let mut text = Bytes::new(alloc);
+    let [first, others @ ..] = cases else {
+        return Ok(text);
+    };
+    append_case(alloc, &mut text, *first)?;
+    for case in others {
+        text.append(b",")?;
+        append_case(alloc, &mut text, *case)?;
+    }
+    Ok(text)
+}
+
+fn kind_text(alloc: Global, kind: Kind) -> Result<String, AllocError>
+    ensures { IfOk result (λ text. string_bytes text ≡ kind_text kind) }
+{
+    match kind {
+        Kind::Int(bits) => format!(in alloc; "int{bits}"),
+        Kind::UInt(bits) => format!(in alloc; "uint{bits}"),
+        Kind::Dec { p, s } => format!(in alloc; "decimal[{p},{s}]"),
+        Kind::Text { max, fixed: true } => format!(in alloc; "string[{max}]"),
+        Kind::Text { max, fixed: false } => format!(in alloc; "string[max={max}]"),
+        Kind::Date => format!(in alloc; "date"),
+    }
+}
+
+pub fn print_set(alloc: Global, spec: &SetSpec) -> Result<Bytes, NoMemory>
+    ensures { IfOk result (λ text. text ≡ set_text spec.now) }
+{
+    let kind = kind_text(alloc, spec.field.kind)?;
+    let nullable: &[u8] = if spec.field.nullable {
+        b"nullable "
+    } else {
+        b""
+    };
+    let mut text = Bytes::new(alloc);
+    text.append(spec.field.name.as_slice())?;
+    text.append(b": ")?;
+    text.append(nullable)?;
+    text.append(kind.as_bytes())?;
+    text.append(b" = ")?;
+    text.append(spec.expr.as_slice())?;
     Ok(text)
 }
 

@@ -1,8 +1,9 @@
 use crate::{OshFault, OshWhy, read_flow};
+use flow_graph::OpKind;
 use std::alloc::Global;
 use std::test::Fail;
 
-const FAULTS: [(&str, usize, OshWhy); 94] = [
+const FAULTS: [(&str, usize, OshWhy); 147] = [
     ("", 0, OshWhy::Syntax),
     ("# only a comment", 16, OshWhy::Syntax),
     ("import -file \"in", 13, OshWhy::Token),
@@ -24,9 +25,6 @@ const FAULTS: [(&str, usize, OshWhy); 94] = [
     ("copy 'a'", 5, OshWhy::Syntax),
     ("-file", 0, OshWhy::Syntax),
     ("'copy'", 0, OshWhy::Syntax),
-    ("filter -where 'a'", 0, OshWhy::UnknownOperator),
-    ("transform -set 'a: date = b'", 0, OshWhy::UnknownOperator),
-    ("switch -on a -cases 1", 0, OshWhy::UnknownOperator),
     ("cpoy", 0, OshWhy::UnknownOperator),
     ("copy -x", 5, OshWhy::UnknownOption),
     ("tsort -key a -last", 13, OshWhy::UnknownOption),
@@ -67,6 +65,62 @@ const FAULTS: [(&str, usize, OshWhy); 94] = [
     ("export -file ''", 13, OshWhy::BadValue),
     ("export -file \"it's\"", 13, OshWhy::BadValue),
     ("export -file a -delim ,", 15, OshWhy::BadValue),
+    ("filter", 0, OshWhy::MissingOption),
+    ("filter -reject", 0, OshWhy::MissingOption),
+    ("transform -reject", 0, OshWhy::MissingOption),
+    ("switch -on a", 0, OshWhy::MissingOption),
+    ("switch -cases 1", 0, OshWhy::MissingOption),
+    ("transform [seq] $", 0, OshWhy::MissingOption),
+    ("filter $", 7, OshWhy::Token),
+    ("transform $", 10, OshWhy::Token),
+    ("switch -on a $", 13, OshWhy::Token),
+    ("filter -where", 7, OshWhy::BadValue),
+    ("filter -where \"\"", 14, OshWhy::BadValue),
+    ("filter -where \"a =\"", 14, OshWhy::BadValue),
+    ("filter -where \"a $\"", 14, OshWhy::BadValue),
+    ("filter -where \"a /*\"", 14, OshWhy::BadValue),
+    ("filter -where \"a b\"", 14, OshWhy::BadValue),
+    ("filter -where \"f(a\"", 14, OshWhy::BadValue),
+    ("filter -where \"-\"", 14, OshWhy::BadValue),
+    ("filter -where a -where b", 16, OshWhy::DoubleOption),
+    ("filter -where a -reject -reject", 24, OshWhy::DoubleOption),
+    ("filter -where a -reject b", 24, OshWhy::BadValue),
+    ("filter -where a -on b", 16, OshWhy::UnknownOption),
+    ("transform -set \"a: date\"", 15, OshWhy::BadValue),
+    ("transform -set \"a: date ==b\"", 15, OshWhy::BadValue),
+    ("transform -set \"a = b\"", 15, OshWhy::BadValue),
+    ("transform -set \"a: dat = b\"", 15, OshWhy::BadValue),
+    ("transform -set \"a: date =\"", 15, OshWhy::BadValue),
+    ("transform -set \"a.b: date = c\"", 15, OshWhy::BadValue),
+    ("transform -set \"a: string[0] = b\"", 15, OshWhy::BadValue),
+    ("transform -set \"a: decimal[39] = b\"", 15, OshWhy::BadValue),
+    ("transform -set \"a: decimal[8,9] = b\"", 15, OshWhy::BadValue),
+    ("transform -set \"a: date = b = c\"", 15, OshWhy::BadValue),
+    ("transform -set \"a: date; = b\"", 15, OshWhy::BadValue),
+    ("transform -set \"nullable a: date = b\"", 15, OshWhy::BadValue),
+    ("transform -set \"'a': date = b\"", 15, OshWhy::BadValue),
+    ("transform -set \"a: date = b $\"", 15, OshWhy::BadValue),
+    ("transform -set \"a: date $ = b\"", 15, OshWhy::BadValue),
+    ("transform -set \"n23456789_123456789_123456789_123456789_123456789_123456789_12345: date = b\"", 15, OshWhy::BadValue),
+    ("transform -set 'a: date = b' -set 'a: date'", 34, OshWhy::BadValue),
+    ("transform -set 'a: date = b' -reject -reject", 37, OshWhy::DoubleOption),
+    ("switch -on a -cases ''", 20, OshWhy::BadValue),
+    ("switch -on a -cases '1,1'", 20, OshWhy::BadValue),
+    ("switch -on a -cases '0,-0'", 20, OshWhy::BadValue),
+    ("switch -on a -cases '1,01'", 20, OshWhy::BadValue),
+    ("switch -on a -cases '1.5'", 20, OshWhy::BadValue),
+    ("switch -on a -cases '+1'", 20, OshWhy::BadValue),
+    ("switch -on a -cases '9223372036854775808'", 20, OshWhy::BadValue),
+    ("switch -on a -cases '-9223372036854775809'", 20, OshWhy::BadValue),
+    ("switch -on a -cases '1,'", 20, OshWhy::BadValue),
+    ("switch -on a -cases '1 2'", 20, OshWhy::BadValue),
+    ("switch -on a -cases '--1'", 20, OshWhy::BadValue),
+    ("switch -on a -cases 'a'", 20, OshWhy::BadValue),
+    ("switch -on a -cases '1,$'", 20, OshWhy::BadValue),
+    ("switch -on a -cases -1", 13, OshWhy::BadValue),
+    ("switch -on '' -cases 1", 11, OshWhy::BadValue),
+    ("switch -on a -on b -cases 1", 13, OshWhy::DoubleOption),
+    ("switch -cases 1 -on a -cases 2", 22, OshWhy::DoubleOption),
     ("tsort -key a -key b", 13, OshWhy::DoubleOption),
     ("tsort -key a -key |", 13, OshWhy::BadValue),
     ("tsort -key a -key $", 13, OshWhy::DoubleOption),
@@ -112,7 +166,7 @@ const FAULTS: [(&str, usize, OshWhy); 94] = [
 ];
 
 /// Texts with how many operators and links they have.
-const FLOWS: [(&str, usize, usize); 11] = [
+const FLOWS: [(&str, usize, usize); 15] = [
     ("copy", 1, 0),
     ("copy;", 1, 0),
     ("nopart; nosort; nopart; copy", 1, 0),
@@ -146,8 +200,40 @@ const FLOWS: [(&str, usize, usize); 11] = [
         4,
         5,
     ),
+    (
+        "filter -where a | filter -where 5 -reject | filter -where \"a == 'x'\"",
+        3,
+        2,
+    ),
+    (
+        "transform -set 'a: int32 = b' -set \"a: nullable string[max=10] = 'x'\" -reject",
+        1,
+        0,
+    ),
+    (
+        "switch -on 'a + 1' -cases ' - 1 , 007, 9223372036854775807,-9223372036854775808 # end' -reject > a.v | copy < a.v",
+        2,
+        2,
+    ),
+    (
+        "switch -on a -cases 0",
+        1,
+        0,
+    ),
     ("copy # a comment\n| /* [seq] */ copy", 2, 1),
     ("export -file a.b -fixed 5 | copy", 2, 1),
+];
+
+/// Texts of one operator, and what is kept of its expression, of a transform the last one's.
+const KEPT: [(&str, &str); 8] = [
+    ("filter -where a", "a"),
+    ("filter -where ' a  ==5 '", "a  ==5"),
+    ("filter -where \"/* a */ a + # b\"", ""),
+    ("filter -where \"/* a */ f( a /* b */ ,'c' )# d\"", "f( a /* b */ ,'c' )"),
+    ("transform -set 'a: date = b'", "b"),
+    ("transform -set 'a: date = b' -set 'c :nullable decimal [ 8 ]=\td - 1 '", "d - 1"),
+    ("switch -on ' /**/a' -cases 1", "a"),
+    ("switch -on 1.50 -cases '-1,1' -reject", "1.50"),
 ];
 
 fn is_refused(alloc: Global, text: &[u8], at: usize, why: OshWhy) -> bool {
@@ -169,6 +255,47 @@ fn has_parts(alloc: Global, text: &[u8], ops: usize, links: usize) -> bool {
     }
 }
 
+fn expression(kind: &OpKind) -> &[u8] {
+    match kind {
+        OpKind::Filter { test, reject: _ } => test.as_slice(),
+        OpKind::Transform { set, reject: _ } => match set.as_slice() {
+            [.., last] => last.expr.as_slice(),
+            _ => b"",
+        },
+        OpKind::Switch {
+            on,
+            cases: _,
+            reject: _,
+        } => on.as_slice(),
+        _ => b"",
+    }
+}
+
+fn keeps(alloc: Global, text: &[u8], kept: &[u8]) -> bool {
+    match read_flow(alloc, text) {
+        Ok(flow) => match flow.ops.as_slice() {
+            [op] => expression(&op.kind) == kept,
+            _ => false,
+        },
+        Err(_) => kept.is_empty(),
+    }
+}
+
+/// A filter by a column within so many brackets.
+fn nested(alloc: Global, brackets: usize) -> Result<Vec<u8>, Fail> {
+    let mut text = Vec::new(alloc);
+    text.extend_from_slice(b"filter -where '")?;
+    for _count in 0..brackets {
+        text.push(b'(')?;
+    }
+    text.push(b'a')?;
+    for _count in 0..brackets {
+        text.push(b')')?;
+    }
+    text.push(b'\'')?;
+    Ok(text)
+}
+
 /// So many times the one, and then the other.
 fn repeated(alloc: Global, count: usize, one: &[u8], last: &[u8]) -> Result<Vec<u8>, Fail> {
     let mut text = Vec::new(alloc);
@@ -188,6 +315,11 @@ fn flows_are_read(rt: HostRuntime) -> Result<(), Fail> {
     for (text, ops, links) in FLOWS.iter() {
         assert!(rt; has_parts(alloc, text.as_bytes(), *ops, *links), "{text}");
     }
+    for (text, kept) in KEPT.iter() {
+        assert!(rt; keeps(alloc, text.as_bytes(), kept.as_bytes()), "{text}");
+    }
+    assert!(rt; has_parts(alloc, &nested(alloc, 64)?, 1, 0));
+    assert!(rt; is_refused(alloc, &nested(alloc, 65)?, 14, OshWhy::BadValue));
     let most = repeated(alloc, 199, b"copy|", b"copy")?;
     assert!(rt; has_parts(alloc, &most, 200, 199));
     let many = repeated(alloc, 200, b"copy|", b"copy -x")?;

@@ -9,7 +9,7 @@ use Rattle.flow_graph.specs.declared.flow.LinkSpec.{LinkSpec}
 use Rattle.flow_graph.specs.declared.flow.OpSpec.{OpSpec}
 use Rattle.flow_graph.specs.declared.flow.Flow.{Flow}
 use Rattle.flow_shape.specs.Methods.{MethodDiffers}
-use Rattle.op_shape.specs.Options.{KeysDistinct}
+use Rattle.op_shape.specs.Options.{KeysDistinct, OptionsStand}
 use Rattle.flow_shape.specs.Spelled.{IsJoined}
 use Rattle.osh_read.specs.declared.stage.Redirect.{Redirect}
 use Rattle.osh_read.specs.declared.stage.Redirect.TheVariants as redirect
@@ -84,11 +84,15 @@ fit_keys (s ∷ ss) h = (h.0.0.0, fit_keys ss h.1)
 
 fit_marks : (ss : List Stage) → AllByRecursion Fits ss → AllByRecursion (λ (o : OpSpec). MarkFits o.kind o.mark) (ops ss)
 fit_marks [] h = tt
-fit_marks (s ∷ ss) h = (h.0.0.1.0, fit_marks ss h.1)
+fit_marks (s ∷ ss) h = (h.0.0.1, fit_marks ss h.1)
 
 fit_forms : (ss : List Stage) → AllByRecursion Fits ss → AllByRecursion (λ (o : OpSpec). FormStands o.kind) (ops ss)
 fit_forms [] h = tt
-fit_forms (s ∷ ss) h = (h.0.0.1.1, fit_forms ss h.1)
+fit_forms (s ∷ ss) h = (h.0.0.2, fit_forms ss h.1)
+
+fit_options : (ss : List Stage) → AllByRecursion Fits ss → AllByRecursion (λ (o : OpSpec). OptionsStand o.kind) (ops ss)
+fit_options [] h = tt
+fit_options (s ∷ ss) h = (h.0.0.3, fit_options ss h.1)
 
 as_many : (ss : List Stage) → length (ops ss) ≡ length ss
 as_many [] = refl
@@ -106,6 +110,7 @@ made_joined d ss few h u =
       within = subst (λ n. AllByRecursion (λ (l : LinkSpec). (l.from < n) × (l.to < n)) (links ss)) (sym (as_many ss)) (lies_within (length ss) (links ss) lie);
       ports = λ o. in_order (made d ss) o (stage_ports ss o u);
       keys = fit_keys ss h;
+      options = fit_options ss h;
       methods = lies_differing (length ss) (links ss) lie;
     }
 

@@ -1,24 +1,19 @@
--- Keys whose names differ, and marks, of what is spelled.
-use Rattle.std.proofs.Common.{◌≡◌, inl, inr, ℕ, zero, suc, List, [], ◌∷◌, ◌++◌, length, map, Bool, true, false, Result, Ok, Err, Option, Some, None, refl, sym, ap, ◌∙◌, subst, arith}
-use Rattle.std.specs.Prelude.{if◌then◌else◌, ◌==◌, ◌||◌, ◌&&◌, nat_le, nat_lt, codes}
-use Rattle.ds_lex.specs.Pieces.{is_digit}
-use Rattle.std.specs.Str.Parse.{digits_value}
-use Rattle.std.proofs.lemmas.Bool.{leb-true}
+-- Options as an operator can have them, and marks, of what is spelled.
+use Rattle.std.proofs.Common.{◌≡◌, inl, inr, ℕ, ℤ, List, [], ◌∷◌, map, Bool, true, false, Result, Ok, Err, Option, Some, None, refl, sym, ap, ◌∙◌, subst, arith}
+use Rattle.std.specs.Prelude.{if◌then◌else◌, ◌==◌, ◌||◌}
 use Rattle.std.proofs.lemmas.Bool.Decides.{nat_tests}
-use Rattle.op_base.proofs.All.{all_append}
-use Rattle.flow_shape.proofs.Orders.{and_parts}
 use Rattle.std.specs.Option.{option_map}
-use Rattle.std.specs.List.{AllByRecursion, list_all}
+use Rattle.std.specs.List.{AllByRecursion, cons_option}
 use Rattle.op_base.specs.declared.missing.Missing.{Missing}
 use Rattle.ds_lex.specs.declared.token.Mode.TheVariants.{Inner}
 use Rattle.ds_lex.specs.declared.refusal.Refusal.{Refusal}
 use Rattle.ds_lex.specs.Lexemes.{Lexeme, lexed_text}
-use Rattle.ds_lex.specs.Reading.{accept_at, finish_at, refuse, sort_at}
-use Rattle.ds_lex.specs.declared.token.Sort.TheVariants as sort
+use Rattle.ds_lex.specs.Reading.{finish_at}
 use Rattle.ds_lex.proofs.Readers.{bind_ok}
 use Rattle.ds_schema.specs.declared.schema.Field.{Field}
 use Rattle.ds_schema.specs.declared.schema_text.fault.SchemaFault.{SchemaFault}
-use Rattle.ds_schema.specs.SchemaReading.{is_size, schema_of}
+use Rattle.ds_schema.specs.Schemas.{IsField, IsFieldName}
+use Rattle.ds_schema.specs.SchemaReading.{schema_of}
 use Rattle.ds_schema.specs.ColumnGrammar.{key_name}
 use Rattle.ds_schema.specs.ColumnGrammar as columns
 use Rattle.ds_schema.specs.ColumnReading.{is_name, names_at, keys_at}
@@ -27,9 +22,12 @@ use Rattle.ds_schema.proofs.ColumnLists.{keys_stand}
 use Rattle.ds_text.specs.Forms.{IsDelimiter, IsWidth}
 use Rattle.flow_graph.specs.declared.flow.Mark.{Mark}
 use Rattle.flow_graph.specs.declared.flow.Mark.TheVariants as mark
+use Rattle.op_row.specs.Expressed.{AreDistinct}
+use Rattle.flow_graph.specs.declared.op_kind.SetSpec.{SetSpec}
 use Rattle.flow_graph.specs.declared.op_kind.OpKind.{OpKind}
+use Rattle.flow_graph.specs.declared.op_kind.OpKind.TheVariants as kind
 use Rattle.op_shape.specs.Naming.{NamesDiffer}
-use Rattle.op_shape.specs.Options.{KeysDistinct}
+use Rattle.op_shape.specs.Options.{KeysDistinct, OptionsStand}
 use Rattle.osh_table.specs.declared.operator.OpName.{OpName}
 use Rattle.osh_table.specs.declared.operator.OpName.TheVariants as op
 use Rattle.osh_table.specs.declared.option.OptName.{OptName}
@@ -39,22 +37,27 @@ use Rattle.osh_table.specs.declared.option.Form.TheVariants as form
 use Rattle.osh_value.specs.declared.value.OptValue.{OptValue}
 use Rattle.osh_value.specs.declared.value.OptValue.TheVariants as value
 use Rattle.osh_value.specs.declared.setting.Setting.{Setting}
-use Rattle.osh_value.specs.Values.{content_of, file_value, schema_value, delim_value, missing_named, new_name_at, rename_at, renames_at, widths_at, width_at, with_commas, said_at, whole_at, if_read, unless_bad, inside, value_of}
-use Rattle.osh_value.specs.Kinds.{number_of, found_value, name_in, schema_in, delim_in, widths_in, keys_in, with_value, kind_of}
+use Rattle.osh_value.specs.Values.{content_of, file_value, schema_value, delim_value, missing_named, kept_expression, set_value, new_name_at, rename_at, renames_at, cases_at, widths_at, said_at, whole_at, if_read, unless_bad, inside, value_of}
+use Rattle.osh_value.specs.Kinds.{number_of, found_value, stands, name_in, schema_in, delim_in, widths_in, keys_in, renames_in, expression_in, cases_in, set_in, sets_of, with_value, transform_by, kind_of}
 use Rattle.osh_read.specs.Stages.{plain_mark, bears}
 use Rattle.osh_sound.specs.Grammar.{WrittenOption, setting_of, value_phrase, options_phrase, mark_word, mark_phrase}
 use Rattle.osh_sound.specs.Sound.{AreWidths, FormStands, MarkFits}
+use Rattle.osh_sound.proofs.ListsKeep.{widths_good, renames_good, cases_good, set_good}
 
 some_is : {A : Type 0} (x y : A) → (let o : Option A = Some x in o) ≡ Some y → x ≡ y
 some_is x y h = cc
 
 -- ---- values
 
--- the names of a key list differ, and a delimiter and widths are such as records can have
+-- the names of a key list differ, a delimiter and widths are such as records can have, new names and fields are such as
+-- schemas have, and no case stands twice
 abbrev GoodValue : OptValue → Type 0
 GoodValue (value.Keys keys) = NamesDiffer keys
 GoodValue (value.Delim b) = IsDelimiter b
 GoodValue (value.Widths widths) = AllByRecursion IsWidth widths
+GoodValue (value.Renames pairs) = AllByRecursion (λ (p : List ℕ × List ℕ). IsFieldName p.0) pairs
+GoodValue (value.Set set) = IsField set.field
+GoodValue (value.Cases cases) = AreDistinct cases
 GoodValue v = Unit {0}
 
 pub differ : (keys : List (List ℕ × Bool)) → columns.NamesDiffer key_name keys → NamesDiffer keys
@@ -64,44 +67,12 @@ differ (k ∷ keys) d = (d.0, differ keys d.1)
 made_good : (v w : OptValue) (us rest : List Lexeme) → GoodValue v → (let r : Result (OptValue × List Lexeme) (Refusal (Unit {0})) = Ok (v, us) in r) ≡ Ok (w, rest) → GoodValue w
 made_good v w us rest g h = subst GoodValue (ok_parts (v, us) (w, rest) h).0 g
 
-of_size : (bytes : List ℕ) → is_size 1 65536 bytes ≡ true → IsWidth (digits_value 10 bytes)
-of_size bytes e =
-    let value = digits_value 10 bytes in
-    let ranges = (and_parts (list_all is_digit bytes) (nat_le 1 value && nat_le value 65536) (and_parts (nat_lt 0 (length bytes)) (list_all is_digit bytes && (nat_le 1 value && nat_le value 65536)) e).1).1 in
-    let both = and_parts (nat_le 1 value) (nat_le value 65536) ranges in
-    (leb-true 1 value both.0, leb-true value 65536 both.1)
-
-sized : (b : Bool) (t : Lexeme × List Lexeme) (n : ℕ) (rest : List Lexeme) → is_size 1 65536 t.0.bytes ≡ b → (let r : Result (ℕ × List Lexeme) (Refusal (Unit {0})) = if b then Ok (digits_value 10 t.0.bytes, t.1) else refuse t.0 tt in r) ≡ Ok (n, rest) → IsWidth n
-sized true t n rest e h = subst IsWidth (ok_parts (digits_value 10 t.0.bytes, t.1) (n, rest) h).0 (of_size t.0.bytes e)
-sized false t n rest e h = absurd cc
-
-width_good : (ts rest : List Lexeme) (n : ℕ) → width_at ts ≡ Ok (n, rest) → IsWidth n
-unfolding width_at
-width_good ts rest n h =
-    let a = bind_ok (sort_at sort.Number tt ts) _ (n, rest) h in
-    sized (is_size 1 65536 a.0.0.bytes) a.0 n rest refl a.2
-
-widths_by : (b : Bool) (more : Result (List ℕ × List Lexeme) (Refusal (Unit {0}))) (now ws : List ℕ) (left rest : List Lexeme) → AllByRecursion IsWidth now → (more ≡ Ok (ws, rest) → AllByRecursion IsWidth ws) → (if b then more else Ok (now, left)) ≡ Ok (ws, rest) → AllByRecursion IsWidth ws
-widths_by true more now ws left rest g k h = k h
-widths_by false more now ws left rest g k h = subst (AllByRecursion IsWidth) (ok_parts (now, left) (ws, rest) h).0 g
-
-widths_more : (n : ℕ) (found : List ℕ) (ts rest : List Lexeme) (ws : List ℕ) → AllByRecursion IsWidth found → with_commas (λ more. width_at) n found ts ≡ Ok (ws, rest) → AllByRecursion IsWidth ws
-unfolding with_commas
-widths_more zero found ts rest ws g h = absurd cc
-widths_more (suc n) found ts rest ws g h =
-    let a = bind_ok (width_at ts) _ (ws, rest) h in
-    let all = all_append IsWidth found (a.0.0 ∷ []) g (width_good ts a.0.1 a.0.0 a.1, tt) in
-    let after = accept_at (codes ",") a.0.1 in
-    widths_by after.0 _ (found ++ a.0.0 ∷ []) ws after.1 rest all (λ k. widths_more n (found ++ a.0.0 ∷ []) after.1 rest ws all k) a.2
-
-widths_good : (ts rest : List Lexeme) (ws : List ℕ) → widths_at ts ≡ Ok (ws, rest) → AllByRecursion IsWidth ws
-widths_good ts rest ws h = widths_more (length ts) [] ts rest ws tt h
-
 said_good : (f : Form) (ts rest : List Lexeme) (v : OptValue) → said_at f ts ≡ Ok (v, rest) → GoodValue v
 said_good form.Widths ts rest v h = let a = bind_ok (widths_at ts) _ (v, rest) h in made_good (value.Widths a.0.0) v a.0.1 rest (widths_good ts a.0.1 a.0.0 a.1) a.2
 said_good form.Columns ts rest v h = let a = bind_ok (names_at {W = Unit {0}} tt ts) _ (v, rest) h in made_good (value.Columns a.0.0) v a.0.1 rest tt a.2
 said_good form.Keys ts rest v h = let a = bind_ok (keys_at {W = Unit {0}} tt ts) _ (v, rest) h in made_good (value.Keys a.0.0) v a.0.1 rest (differ a.0.0 (keys_stand tt ts a.0.1 a.0.0 a.1).0.differ) a.2
-said_good form.Renames ts rest v h = let a = bind_ok (renames_at ts) _ (v, rest) h in made_good (value.Renames a.0.0) v a.0.1 rest tt a.2
+said_good form.Renames ts rest v h = let a = bind_ok (renames_at ts) _ (v, rest) h in made_good (value.Renames a.0.0) v a.0.1 rest (renames_good ts a.0.1 a.0.0 a.1) a.2
+said_good form.Cases ts rest v h = let a = bind_ok (cases_at ts) _ (v, rest) h in made_good (value.Cases a.0.0) v a.0.1 rest (cases_good ts a.0.1 a.0.0 a.1) a.2
 said_good form.Count ts rest v h = let a = bind_ok (new_name_at ts) _ (v, rest) h in made_good _ v a.0.1 rest tt a.2
 said_good form.Sum ts rest v h = let a = bind_ok (rename_at [] ts) _ (v, rest) h in made_good _ v a.0.1 rest tt a.2
 said_good form.Min ts rest v h = let a = bind_ok (rename_at [] ts) _ (v, rest) h in made_good _ v a.0.1 rest tt a.2
@@ -157,6 +128,14 @@ missing_good : (o : Option Missing) (v : OptValue) → option_map value.Missing 
 missing_good None v h = absurd cc
 missing_good (Some m) v h = subst GoodValue (some_is (value.Missing m) v h) tt
 
+expression_good : (o : Option (List ℕ)) (v : OptValue) → option_map value.Expression o ≡ Some v → GoodValue v
+expression_good None v h = absurd cc
+expression_good (Some expr) v h = subst GoodValue (some_is (value.Expression expr) v h) tt
+
+setting_good : (o : Option SetSpec) (v : OptValue) → ((set : SetSpec) → o ≡ Some set → IsField set.field) → option_map value.Set o ≡ Some v → GoodValue v
+setting_good None v f h = absurd cc
+setting_good (Some set) v f h = subst GoodValue (some_is (value.Set set) v h) (f set refl)
+
 value_good : (f : Form) (bytes : List ℕ) (v : OptValue) → value_of f bytes ≡ Some v → GoodValue v
 unfolding value_of
 value_good form.Flag bytes v h = absurd cc
@@ -165,9 +144,9 @@ value_good form.DataSet bytes v h = data_set_good _ bytes v h
 value_good form.Schema bytes v h = schema_good (schema_of bytes) v h
 value_good form.Delim bytes v h = delim_good bytes v h
 value_good form.Missing bytes v h = missing_good (missing_named bytes) v h
-value_good form.Expression bytes v h = absurd cc
-value_good form.Setting bytes v h = absurd cc
-value_good form.Cases bytes v h = absurd cc
+value_good form.Expression bytes v h = expression_good (kept_expression bytes) v h
+value_good form.Setting bytes v h = setting_good (set_value bytes) v (λ set e. set_good bytes set e) h
+value_good form.Cases bytes v h = inside_good form.Cases bytes v h
 value_good form.Widths bytes v h = inside_good form.Widths bytes v h
 value_good form.Columns bytes v h = inside_good form.Columns bytes v h
 value_good form.Renames bytes v h = inside_good form.Renames bytes v h
@@ -265,31 +244,64 @@ Forms ss = IsDelimiter (delim_in (found_value opt.Delim ss)) × AreWidths (width
 forms_good : (ss : List Setting) → AllGood ss → Forms ss
 forms_good ss g = (delim_of (found_value opt.Delim ss) (λ v h. found_good opt.Delim ss v g h), widths_of (found_value opt.Fixed ss) (λ v h. found_good opt.Fixed ss v g h))
 
--- the keys of an operator differ, it runs as it can, and its file has a form that records can have
-abbrev pub Keeps : Mark → OpKind → Type 0
-Keeps m k = KeysDistinct k × (MarkFits k m × FormStands k)
+renames_of : (o : Option OptValue) → ((v : OptValue) → o ≡ Some v → GoodValue v) → AllByRecursion (λ (p : List ℕ × List ℕ). IsFieldName p.0) (renames_in o)
+renames_of None g = tt
+renames_of (Some (value.Renames pairs)) g = g (value.Renames pairs) refl
+renames_of (Some v) g = tt
 
-keeps_by : (o : OpName) (ss : List Setting) (k : OpKind) (m : Mark) → NamesDiffer (keys_in (found_value opt.Key ss)) → Forms ss → CanRun (plain_mark o) m → kind_of o ss ≡ Some k → Keeps m k
-keeps_by op.Import ss k m d f c h = with_kept (Keeps m) (name_in (found_value opt.File ss)) _ k h (λ file g. with_kept (Keeps m) (schema_in (found_value opt.Schema ss)) _ k g (λ schema e. kept (Keeps m) _ k (tt, (c, f)) e))
-keeps_by op.Export ss k m d f c h = with_kept (Keeps m) (name_in (found_value opt.File ss)) _ k h (λ file e. kept (Keeps m) _ k (tt, (c, f)) e)
-keeps_by op.Dsread ss k m d f c h = with_kept (Keeps m) (name_in (found_value opt.Ds ss)) _ k h (λ ds e. kept (Keeps m) _ k (tt, (c, tt)) e)
-keeps_by op.Dswrite ss k m d f c h = with_kept (Keeps m) (name_in (found_value opt.Ds ss)) _ k h (λ ds e. kept (Keeps m) _ k (tt, (c, tt)) e)
-keeps_by op.Filter ss k m d f c h = absurd cc
-keeps_by op.Transform ss k m d f c h = absurd cc
-keeps_by op.Switch ss k m d f c h = absurd cc
-keeps_by op.Tsort ss k m d f c h = kept (Keeps m) _ k (d, (c, tt)) h
-keeps_by op.Remdup ss k m d f c h = kept (Keeps m) _ k (d, (c, tt)) h
-keeps_by op.Copy ss k m d f c h = kept (Keeps m) _ k (tt, (c, tt)) h
-keeps_by op.Modify ss k m d f c h = kept (Keeps m) _ k (tt, (c, tt)) h
-keeps_by op.Group ss k m d f c h = kept (Keeps m) _ k (tt, (c, tt)) h
-keeps_by op.InnerJoin ss k m d f c h = kept (Keeps m) _ k (tt, (c, tt)) h
-keeps_by op.LeftOuterJoin ss k m d f c h = kept (Keeps m) _ k (tt, (c, tt)) h
-keeps_by op.RightOuterJoin ss k m d f c h = kept (Keeps m) _ k (tt, (c, tt)) h
-keeps_by op.FullOuterJoin ss k m d f c h = kept (Keeps m) _ k (tt, (c, tt)) h
-keeps_by op.Merge ss k m d f c h = kept (Keeps m) _ k (tt, (c, tt)) h
-keeps_by op.Lookup ss k m d f c h = kept (Keeps m) _ k (tt, (c, tt)) h
-keeps_by op.Changecapture ss k m d f c h = kept (Keeps m) _ k (tt, (c, tt)) h
-keeps_by op.Funnel ss k m d f c h = kept (Keeps m) _ k (tt, (c, tt)) h
+abbrev CasesStand : Option (List ℤ) → Type 0
+CasesStand None = Unit {0}
+CasesStand (Some cases) = AreDistinct cases
+
+cases_of : (o : Option OptValue) → ((v : OptValue) → o ≡ Some v → GoodValue v) → CasesStand (cases_in o)
+cases_of None g = tt
+cases_of (Some (value.Cases cases)) g = g (value.Cases cases) refl
+cases_of (Some v) g = tt
+
+abbrev AreFields : List SetSpec → Type 0
+AreFields set = AllByRecursion (λ (s : SetSpec). IsField s.field) set
+
+set_before : (v : OptValue) (set : List SetSpec) → GoodValue v → AreFields set → AreFields (cons_option (set_in v) set)
+set_before (value.Set s) set g h = (g, h)
+set_before v set g h = h
+
+sets_good : (ss : List Setting) → AllGood ss → AreFields (sets_of ss)
+sets_good [] g = tt
+sets_good (s ∷ ss) g = set_before s.value (sets_of ss) g.0 (sets_good ss g.1)
+
+-- the keys of an operator differ, it runs as it can, its file has a form that records can have, and its options stand
+abbrev pub Keeps : Mark → OpKind → Type 0
+Keeps m k = KeysDistinct k × MarkFits k m × FormStands k × OptionsStand k
+
+transform_keeps : (set : List SetSpec) (reject : Bool) (k : OpKind) (m : Mark) → AreFields set → CanRun mark.Par m → transform_by set reject ≡ Some k → Keeps m k
+transform_keeps [] reject k m f c h = absurd cc
+transform_keeps (s ∷ set) reject k m f c h = kept (Keeps m) _ k (tt, c, tt, (omega arith, f)) h
+
+switch_keeps : (on : List ℕ) (cases : Option (List ℤ)) (reject : Bool) (k : OpKind) (m : Mark) → CasesStand cases → CanRun mark.Par m → with_value cases (λ (cs : List ℤ). Some (kind.Switch on cs reject)) ≡ Some k → Keeps m k
+switch_keeps on None reject k m d c h = absurd cc
+switch_keeps on (Some cases) reject k m d c h = kept (Keeps m) _ k (tt, c, tt, d) h
+
+keeps_by : (o : OpName) (ss : List Setting) (k : OpKind) (m : Mark) → AllGood ss → CanRun (plain_mark o) m → kind_of o ss ≡ Some k → Keeps m k
+keeps_by op.Import ss k m g c h = with_kept (Keeps m) (name_in (found_value opt.File ss)) _ k h (λ file i. with_kept (Keeps m) (schema_in (found_value opt.Schema ss)) _ k i (λ schema e. kept (Keeps m) _ k (tt, c, forms_good ss g, tt) e))
+keeps_by op.Export ss k m g c h = with_kept (Keeps m) (name_in (found_value opt.File ss)) _ k h (λ file e. kept (Keeps m) _ k (tt, c, forms_good ss g, tt) e)
+keeps_by op.Dsread ss k m g c h = with_kept (Keeps m) (name_in (found_value opt.Ds ss)) _ k h (λ ds e. kept (Keeps m) _ k (tt, c, tt, tt) e)
+keeps_by op.Dswrite ss k m g c h = with_kept (Keeps m) (name_in (found_value opt.Ds ss)) _ k h (λ ds e. kept (Keeps m) _ k (tt, c, tt, tt) e)
+keeps_by op.Filter ss k m g c h = with_kept (Keeps m) (expression_in (found_value opt.Where ss)) _ k h (λ test e. kept (Keeps m) _ k (tt, c, tt, tt) e)
+keeps_by op.Transform ss k m g c h = transform_keeps (sets_of ss) (stands (found_value opt.Reject ss)) k m (sets_good ss g) c h
+keeps_by op.Switch ss k m g c h = with_kept (Keeps m) (expression_in (found_value opt.On ss)) _ k h (λ on e. switch_keeps on (cases_in (found_value opt.Cases ss)) (stands (found_value opt.Reject ss)) k m (cases_of (found_value opt.Cases ss) (λ v f. found_good opt.Cases ss v g f)) c e)
+keeps_by op.Modify ss k m g c h = kept (Keeps m) _ k (tt, c, tt, renames_of (found_value opt.Rename ss) (λ v f. found_good opt.Rename ss v g f)) h
+keeps_by op.Tsort ss k m g c h = kept (Keeps m) _ k (keys_good ss g, c, tt, tt) h
+keeps_by op.Remdup ss k m g c h = kept (Keeps m) _ k (keys_good ss g, c, tt, tt) h
+keeps_by op.Copy ss k m g c h = kept (Keeps m) _ k (tt, c, tt, tt) h
+keeps_by op.Group ss k m g c h = kept (Keeps m) _ k (tt, c, tt, tt) h
+keeps_by op.InnerJoin ss k m g c h = kept (Keeps m) _ k (tt, c, tt, tt) h
+keeps_by op.LeftOuterJoin ss k m g c h = kept (Keeps m) _ k (tt, c, tt, tt) h
+keeps_by op.RightOuterJoin ss k m g c h = kept (Keeps m) _ k (tt, c, tt, tt) h
+keeps_by op.FullOuterJoin ss k m g c h = kept (Keeps m) _ k (tt, c, tt, tt) h
+keeps_by op.Merge ss k m g c h = kept (Keeps m) _ k (tt, c, tt, tt) h
+keeps_by op.Lookup ss k m g c h = kept (Keeps m) _ k (tt, c, tt, tt) h
+keeps_by op.Changecapture ss k m g c h = kept (Keeps m) _ k (tt, c, tt, tt) h
+keeps_by op.Funnel ss k m g c h = kept (Keeps m) _ k (tt, c, tt, tt) h
 
 pub operator_keeps : (o : OpName) (ws : List WrittenOption) (k : OpKind) (m : Mark) (ts us vs ws2 : List Lexeme) → options_phrase o ws ts us → mark_phrase o m vs ws2 → kind_of o (map setting_of ws) ≡ Some k → Keeps m k
-operator_keeps o ws k m ts us vs ws2 p q h = keeps_by o (map setting_of ws) k m (keys_good (map setting_of ws) (options_good o ws ts us p)) (forms_good (map setting_of ws) (options_good o ws ts us p)) (mark_runs o m vs ws2 q) h
+operator_keeps o ws k m ts us vs ws2 p q h = keeps_by o (map setting_of ws) k m (options_good o ws ts us p) (mark_runs o m vs ws2 q) h

@@ -3,6 +3,7 @@ pub mod MethodsHold
 pub mod OptionsHold
 pub mod StagesHold
 pub mod FlowsHold
+pub mod ListsKeep
 pub mod KindsKeep
 pub mod JoinsKeep
 pub mod FlowsKeep
@@ -13,6 +14,11 @@ pub mod MethodsRead
 pub mod OptionsRead
 pub mod StagesRead
 pub mod FlowsRead
+pub mod KeptTokens
+pub mod ExprsShifted
+pub mod ExpressionsBack
+pub mod FieldsPrinted
+pub mod SetsBack
 pub mod ValuesBack
 pub mod OptionsPrinted
 pub mod OperatorsWritten

@@ -1,5 +1,5 @@
 -- The options that are printed of an operator say it, and are its text.
-use Rattle.std.proofs.Common.{◌≡◌, ℕ, List, [], ◌∷◌, ◌++◌, map, filter_map, Bool, true, false, Option, Some, None, refl, sym, ap, ◌∙◌, append_assoc}
+use Rattle.std.proofs.Common.{◌≡◌, ◌≤◌, ℕ, List, [], ◌∷◌, ◌++◌, length, map, Bool, true, false, Option, Some, None, refl, sym, ap, ◌∙◌, append_assoc, arith}
 use Rattle.std.specs.Prelude.{◌==◌, if◌then◌else◌}
 use Rattle.std.specs.List.{flat_map}
 use Rattle.std.proofs.lemmas.Bool.{eqb-true}
@@ -12,20 +12,19 @@ use Rattle.ds_schema.specs.declared.schema.Field.{Field}
 use Rattle.ds_schema.specs.SchemaText.{schema_text}
 use Rattle.flow_graph.specs.declared.op_kind.AggSpec.{AggSpec}
 use Rattle.flow_graph.specs.declared.op_kind.AggSpec.TheVariants as agg
-use Rattle.flow_graph.specs.declared.op_kind.OpKind.{OpKind}
+use Rattle.flow_graph.specs.declared.op_kind.SetSpec.{SetSpec}
 use Rattle.flow_graph.specs.declared.op_kind.OpKind.TheVariants as kind
 use Rattle.osh_table.specs.declared.operator.OpName.TheVariants as op
 use Rattle.osh_table.specs.declared.option.OptName.{OptName}
 use Rattle.osh_table.specs.declared.option.OptName.TheVariants as opt
 use Rattle.osh_table.specs.declared.option.Form.TheVariants as form
-use Rattle.osh_value.specs.declared.value.OptValue.{OptValue}
 use Rattle.osh_value.specs.declared.value.OptValue.TheVariants as value
 use Rattle.osh_value.specs.declared.setting.Setting.{Setting}
-use Rattle.osh_value.specs.Kinds.{found_value, results_of, kind_of}
-use Rattle.osh_print.specs.OptionText.{option_text, flag_text, delim_text, widths_text, keys_option, columns_option, renames_option, missing_text, result_text, results_text, name_of, options_text}
+use Rattle.osh_value.specs.Kinds.{found_value, stands, sets_of, transform_by, results_of, kind_of}
+use Rattle.osh_print.specs.OptionText.{option_text, flag_text, set_text, sets_text, delim_text, widths_text, keys_option, columns_option, renames_option, missing_text, result_text, results_text}
 use Rattle.osh_sound.specs.Grammar.{WrittenOption, setting_of}
 use Rattle.osh_sound.specs.OptionLaws.{written_text}
-use Rattle.osh_sound.specs.OperatorLaws.{one, flag_of, delim_of, widths_of, keys_of, columns_of, renames_of, missing_of, result_of, written, IsBuilt, WrittenSays, WrittenIsPrinted}
+use Rattle.osh_sound.specs.OperatorLaws.{one, flag_of, delim_of, widths_of, keys_of, columns_of, renames_of, missing_of, result_of, set_of, written, WrittenSays, WrittenIsPrinted}
 
 -- ---- what they say
 
@@ -80,15 +79,38 @@ group_says [] false results = rw (no_key results, no_hash results, all_results r
 group_says (k ∷ key) true results = rw (all_results results) refl
 group_says (k ∷ key) false results = rw (no_hash results, all_results results) refl
 
+-- what a transform's options say
+abbrev set_settings : List SetSpec → Bool → List Setting
+set_settings set reject = map setting_of (map set_of set ++ flag_of opt.Reject 1 reject)
+
+all_sets : (set : List SetSpec) (reject : Bool) → sets_of (set_settings set reject) ≡ set
+all_sets [] true = refl
+all_sets [] false = refl
+all_sets (s ∷ set) reject = ap (λ (xs : List SetSpec). s ∷ xs) (all_sets set reject)
+
+set_rejects : (set : List SetSpec) (reject : Bool) → stands (found_value opt.Reject (set_settings set reject)) ≡ reject
+set_rejects [] true = refl
+set_rejects [] false = refl
+set_rejects (s ∷ set) reject = set_rejects set reject
+
+some_sets : (set : List SetSpec) (reject : Bool) → 1 ≤ length set → transform_by set reject ≡ Some (kind.Transform set reject)
+some_sets [] reject h = absurd (omega arith)
+some_sets (s ∷ set) reject h = refl
+
+transform_says : (set : List SetSpec) (reject : Bool) → 1 ≤ length set → kind_of op.Transform (set_settings set reject) ≡ Some (kind.Transform set reject)
+transform_says set reject h = ap (λ (xs : List SetSpec). transform_by xs (stands (found_value opt.Reject (set_settings set reject)))) (all_sets set reject) ∙ (ap (transform_by set) (set_rejects set reject) ∙ some_sets set reject h)
+
 pub written_says : WrittenSays
 written_says (kind.Import file schema delim fixed reject) b = import_says file schema delim fixed reject (delim == 44) refl
 written_says (kind.Export file delim fixed) b = export_says file delim fixed (delim == 44) refl
 written_says (kind.Dsread ds) b = refl
 written_says (kind.Dswrite ds) b = refl
 written_says kind.Copy b = refl
-written_says (kind.Filter test reject) b = absurd b
-written_says (kind.Transform set reject) b = absurd b
-written_says (kind.Switch on cases reject) b = absurd b
+written_says (kind.Filter test true) b = refl
+written_says (kind.Filter test false) b = refl
+written_says (kind.Transform set reject) b = transform_says set reject b
+written_says (kind.Switch on cases true) b = refl
+written_says (kind.Switch on cases false) b = refl
 written_says (kind.Modify [] [] []) b = refl
 written_says (kind.Modify [] [] (p ∷ ps)) b = refl
 written_says (kind.Modify [] (d ∷ ds) []) b = refl
@@ -194,6 +216,14 @@ results_is : (rs : List AggSpec) → results_text rs ≡ text (map result_of rs)
 results_is [] = refl
 results_is (r ∷ rs) = flat_map-cons result_text r rs ∙ (ap (λ (z : List ℕ). z ++ results_text rs) (result_is r) ∙ (ap (λ (z : List ℕ). written_text (result_of r) ++ z) (results_is rs) ∙ sym (flat_map-cons written_text (result_of r) (map result_of rs))))
 
+sets_is : (set : List SetSpec) → sets_text set ≡ text (map set_of set)
+sets_is [] = refl
+sets_is (s ∷ set) = flat_map-cons (λ (t : SetSpec). option_text opt.Set (set_text t)) s set ∙ (ap (λ (z : List ℕ). written_text (set_of s) ++ z) (sets_is set) ∙ sym (flat_map-cons written_text (set_of s) (map set_of set)))
+
+-- one option, and what stands behind it
+one_and : (w : WrittenOption) (more : List WrittenOption) (y : List ℕ) → y ≡ text more → written_text w ++ y ≡ text (w ∷ more)
+one_and w more y e = both (w ∷ []) more (written_text w) y (sym (single w)) e
+
 -- a key, and what stands behind it
 keyed : (required : Bool) (key : List (List ℕ × Bool)) (more : List WrittenOption) (y : List ℕ) → y ≡ text more → [] ++ (keys_option opt.Key key ++ y) ≡ text (keys_of opt.Key required 1 key ++ more)
 keyed required key more y e = both (keys_of opt.Key required 1 key) more (keys_option opt.Key key) y (keys_is opt.Key required 1 key) e
@@ -226,9 +256,11 @@ written_printed (kind.Export file delim fixed) b = ends_is (written (kind.Export
 written_printed (kind.Dsread ds) b = ends_is (written (kind.Dsread ds)) _ (sym (single (one opt.Ds form.DataSet true 1 (value.Name ds))))
 written_printed (kind.Dswrite ds) b = ends_is (written (kind.Dswrite ds)) _ (sym (single (one opt.Ds form.DataSet true 1 (value.Name ds))))
 written_printed kind.Copy b = refl
-written_printed (kind.Filter test reject) b = absurd b
-written_printed (kind.Transform set reject) b = absurd b
-written_printed (kind.Switch on cases reject) b = absurd b
+written_printed (kind.Filter test reject) b = one_and (one opt.Where form.Expression true 1 (value.Expression test)) (flag_of opt.Reject 2 reject) _ (flag_is opt.Reject 2 reject)
+written_printed (kind.Transform set reject) b = both (map set_of set) (flag_of opt.Reject 1 reject) _ _ (sets_is set) (flag_is opt.Reject 1 reject)
+written_printed (kind.Switch on cases reject) b =
+    let c = one opt.Cases form.Cases true 2 (value.Cases cases) in
+    one_and (one opt.On form.Expression true 1 (value.Expression on)) (c ∷ flag_of opt.Reject 3 reject) _ (one_and c (flag_of opt.Reject 3 reject) _ (flag_is opt.Reject 3 reject))
 written_printed (kind.Modify keep drop rename) b = both (columns_of opt.Keep 1 keep) (columns_of opt.Drop 1 drop ++ renames_of rename) _ _ (columns_is opt.Keep 1 keep) (both (columns_of opt.Drop 1 drop) (renames_of rename) _ _ (columns_is opt.Drop 1 drop) (renames_is rename))
 written_printed (kind.Tsort key) b = key_alone key
 written_printed (kind.Remdup key last) b = keyed true key (flag_of opt.Last 2 last) _ (flag_is opt.Last 2 last)

@@ -1,20 +1,20 @@
 -- Printed options are tokens that spell them.
-use Rattle.std.proofs.Common.{◌≡◌, ◌≤◌, ◌<◌, ◌+◌, ◌-◌, inl, inr, ℕ, zero, suc, List, [], ◌∷◌, ◌++◌, length, take, drop, cond, Bool, true, false, Option, Some, None, refl, sym, ap, ◌∙◌, subst, append_assoc, arith, length-append}
-use Rattle.std.specs.Prelude.{if◌then◌else◌, not, ◌==◌, ◌&&◌, position, codes}
+use Rattle.std.proofs.Common.{◌≡◌, ◌<◌, ◌+◌, ◌-◌, ℕ, suc, List, [], ◌∷◌, ◌++◌, length, Bool, true, false, Some, refl, sym, ap, ◌∙◌, subst, append_assoc, arith, length-append}
+use Rattle.std.specs.Prelude.{if◌then◌else◌, not, ◌==◌, position, codes}
 use Rattle.std.specs.List.{list_all, flat_map, position_from, AllByRecursion}
 use Rattle.std.specs.Cmp.{first_so, second_so}
 use Rattle.std.proofs.lemmas.Bool.{cond-true, eq-eqb, not-true}
 use Rattle.std.proofs.lemmas.List.{append-nil}
 use Rattle.std.proofs.lemmas.List.Concat.{flat_map-cons}
 use Rattle.std.proofs.lemmas.Iterator.Adapters.{position_from-zero}
-use Rattle.std.proofs.Math.Seq.{drop-append_seam, take-append_seam}
+use Rattle.std.proofs.Math.Seq.{take-append_seam}
 use Rattle.ds_lex.specs.declared.token.Mode.TheVariants.{Osh}
 use Rattle.ds_lex.specs.declared.token.Sort.TheVariants as sort
 use Rattle.ds_lex.specs.declared.token.Piece.TheVariants.{Part}
 use Rattle.ds_lex.specs.Pieces.{is_letter, is_opt_byte, is_text_byte, quoted_of, piece_at}
 use Rattle.ds_lex.specs.Lexemes.{Lexeme, lexed_text}
-use Rattle.ds_lex.specs.Phrases.{Phrase, word, token, nothing, ◌~◌}
-use Rattle.ds_lex.proofs.Printed.{Lexes, lexes_end, lexes_token, Prints, Fails, count_until, prints_nothing, prints_then, blank_before, prints_token, anything}
+use Rattle.ds_lex.specs.Phrases.{token, ◌~◌}
+use Rattle.ds_lex.proofs.Printed.{Lexes, lexes_end, lexes_token, Prints, Fails, count_until, prints_nothing, prints_then, blank_before, prints_token}
 use Rattle.osh_table.specs.declared.operator.OpName.{OpName}
 use Rattle.osh_table.specs.declared.option.OptName.{OptName}
 use Rattle.osh_table.specs.declared.option.OptName.TheVariants as opt
@@ -25,8 +25,8 @@ use Rattle.osh_table.specs.Words.{option_word}
 use Rattle.osh_table.specs.Options.{row_named}
 use Rattle.osh_value.specs.declared.value.OptValue.{OptValue}
 use Rattle.osh_value.specs.declared.value.OptValue.TheVariants as value
-use Rattle.osh_value.specs.Values.{unquoted, content_of, value_of}
-use Rattle.osh_print.specs.OptionText.{has_quote, quote_of, quoted, option_text, flag_text}
+use Rattle.osh_value.specs.Values.{unquoted, value_of}
+use Rattle.osh_print.specs.OptionText.{has_quote, quote_of, quoted, option_text}
 use Rattle.osh_sound.specs.Grammar.{WrittenOption, said, value_phrase, option_phrase, options_phrase}
 use Rattle.osh_sound.specs.OptionLaws.{value_text, by_form, written_text, IsQuotable, ValueFits, OptionFits}
 

@@ -1,11 +1,14 @@
 -- Printed values are read back.
-use Rattle.std.proofs.Common.{◌≡◌, ◌≤◌, ◌<◌, ◌^◌, ℕ, zero, suc, List, [], ◌∷◌, ◌++◌, length, Bool, true, false, Ok, Some, None, refl, sym, ap, ◌∙◌, subst, append_assoc, arith, lit<}
+use Rattle.std.proofs.Common.{◌≡◌, ◌≤◌, ◌<◌, ◌^◌, ◌-◌, ℕ, ℤ, pos, negsuc, neg_ℤ, FitsSigned, w64, zero, suc, List, [], ◌∷◌, ◌++◌, length, Bool, true, false, Ok, Some, None, refl, sym, ap, ◌∙◌, subst, append_assoc, arith, lit<}
 use Rattle.std.specs.Prelude.{nat_le, nat_lt, ◌==◌, ◌||◌, codes}
 use Rattle.std.specs.List.{flat_map, list_all, AllByRecursion}
-use Rattle.std.specs.Fmt.{decimal}
+use Rattle.std.specs.Fmt.{decimal, signed_decimal}
+use Rattle.std.specs.Option.{option_map}
+use Rattle.std.specs.Str.{bytes_eq}
 use Rattle.std.specs.Str.Parse.{IsNumeral, digits_value}
 use Rattle.std.specs.Cmp.{first_so, second_so}
-use Rattle.std.proofs.lemmas.Bool.{le-leb, false_from_ne_true, eqb-true}
+use Rattle.std.proofs.lemmas.Bool.{le-leb, ne_eqb, false_from_ne_true, eqb-true}
+use Rattle.std.proofs.lemmas.Str.Parse.{digit_from_value}
 use Rattle.std.proofs.lemmas.Fmt.{decimal_is_IsNumeral}
 use Rattle.std.proofs.lemmas.List.{append-nil}
 use Rattle.std.proofs.lemmas.List.Concat.{flat_map-cons}
@@ -22,8 +25,8 @@ use Rattle.ds_lex.specs.Reading.{finish_at}
 use Rattle.ds_lex.specs.Tokens.{IsWord}
 use Rattle.ds_lex.specs.Phrases.{Phrase, word, token, nothing, ◌~◌}
 use Rattle.ds_lex.proofs.TokensWhole.{by_mode}
-use Rattle.ds_lex.proofs.Readers.{none_accepted}
-use Rattle.ds_lex.proofs.Printed.{Lexes, lexes_end, Prints, Fails, is_number_byte, Ends, prints_nothing, prints_then, prints_name, prints_number, prints_sign, anything}
+use Rattle.ds_lex.proofs.Readers.{none_accepted, lacks_other}
+use Rattle.ds_lex.proofs.Printed.{Lexes, lexes_end, Prints, Fails, is_number_byte, Ends, prints_nothing, prints_then, prints_piece, prints_name, prints_number, prints_sign, anything}
 use Rattle.ds_schema.specs.declared.schema.Field.{Field}
 use Rattle.ds_schema.specs.Schemas.{IsFieldName, IsSchema}
 use Rattle.ds_schema.specs.SchemaGrammar.{number}
@@ -38,17 +41,20 @@ use Rattle.ds_schema.proofs.ColumnLists.{standing_names, standing_keys}
 use Rattle.ds_schema.proofs.ColumnsPrinted.{names_read_back, keys_read_back}
 use Rattle.ds_schema.proofs.SchemaPrinted.{narrow, comma, and_none, ends_any, reads_back}
 use Rattle.ds_schema.proofs.SizeReaders.{digits_all}
+use Rattle.flow_graph.specs.declared.op_kind.SetSpec.{SetSpec}
 use Rattle.flow_graph.specs.declared.op_kind.AggSpec.{AggSpec}
 use Rattle.flow_graph.specs.declared.op_kind.AggSpec.TheVariants as agg
 use Rattle.osh_table.specs.declared.option.Form.{Form}
 use Rattle.osh_table.specs.declared.option.Form.TheVariants as form
 use Rattle.osh_value.specs.declared.value.OptValue.{OptValue}
 use Rattle.osh_value.specs.declared.value.OptValue.TheVariants as value
-use Rattle.osh_value.specs.Values.{Inside, new_name_at, has_old, rename_at, with_commas as commas_at, width_at, said_at, whole_at, inside, value_of}
+use Rattle.osh_value.specs.Values.{Inside, new_name_at, has_old, rename_at, with_commas as commas_at, width_at, has_case, case_at, said_at, whole_at, inside, value_of}
 use Rattle.osh_value.proofs.Names.{name_tested}
-use Rattle.osh_print.specs.OptionText.{with_commas, pair_text, missing_word}
-use Rattle.osh_sound.specs.ValueLaws.{agg_text, agg_form, IsPair, OldDiffer, IsResult, AreWidths, ArePairs, AreColumns, AreKeys, ValuesReadBack}
+use Rattle.osh_print.specs.OptionText.{with_commas, pair_text, set_text, missing_word}
+use Rattle.osh_sound.specs.ValueLaws.{agg_text, agg_form, IsPair, OldDiffer, IsResult, IsExpression, IsSet, CasesDiffer, AreWidths, ArePairs, AreCases, AreColumns, AreKeys, ValuesReadBack}
 use Rattle.osh_sound.proofs.MethodsRead.{sort_reads, expect_reads}
+use Rattle.osh_sound.proofs.ExpressionsBack.{kept_again}
+use Rattle.osh_sound.proofs.SetsBack.{set_back}
 
 -- ---- all of a value's bytes
 
@@ -127,17 +133,17 @@ listed_read one P Fresh r (x ∷ xs) ts h f = commas_read one P Fresh r (length 
 abbrev FitsWidth : List ℕ → ℕ → Type 0
 FitsWidth found w = (1 ≤ w) × (w ≤ 65536)
 
-is_width : (bytes : List ℕ) (w : ℕ) → IsNumeral 10 bytes → digits_value 10 bytes ≡ w → 1 ≤ w → w ≤ 65536 → is_size 1 65536 bytes ≡ true
-is_width bytes w n e l h =
+sized : (least most : ℕ) (bytes : List ℕ) (w : ℕ) → IsNumeral 10 bytes → digits_value 10 bytes ≡ w → least ≤ w → w ≤ most → is_size least most bytes ≡ true
+sized least most bytes w n e l h =
     let some : nat_lt 0 (length bytes) ≡ true = le-leb 1 (length bytes) n.0 in
-    let low : nat_le 1 (digits_value 10 bytes) ≡ true = le-leb 1 (digits_value 10 bytes) (omega arith) in
-    let high : nat_le (digits_value 10 bytes) 65536 ≡ true = le-leb (digits_value 10 bytes) 65536 (omega arith) in
+    let low : nat_le least (digits_value 10 bytes) ≡ true = le-leb least (digits_value 10 bytes) (omega arith) in
+    let high : nat_le (digits_value 10 bytes) most ≡ true = le-leb (digits_value 10 bytes) most (omega arith) in
     rw (some, digits_all bytes n.1, low, high) refl
 
 width_one : (found : List ℕ) (w : ℕ) (ts rest : List Lexeme) → FitsWidth found w → number w ts rest → width_at ts ≡ Ok (w, rest)
 unfolding width_at
 width_one found w [] rest f h = absurd h
-width_one found w (t ∷ ts) rest f h = rw (sort_reads sort.Number (tt {0}) t ts h.0, is_width t.bytes w h.1.0 h.1.1 f.0 f.1, h.1.1, h.2) refl
+width_one found w (t ∷ ts) rest f h = rw (sort_reads sort.Number (tt {0}) t ts h.0, sized 1 65536 t.bytes w h.1.0 h.1.1 f.0 f.1, h.1.1, h.2) refl
 
 token_fewer : (s : Sort) (Is : List ℕ → Type 0) (ts rest : List Lexeme) → token s Is ts rest → length rest < length ts
 token_fewer s Is [] rest h = absurd h
@@ -168,6 +174,76 @@ widths_back widths h =
     let all = whole_prints (listed number widths) (Fails is_number_byte) (with_commas decimal widths) tt (list_prints number decimal (Fails is_number_byte) (λ rest. refl) widths h.some (each_width widths h.each)) in
     let read = listed_read (λ found. width_at) number FitsWidth width_reads widths (lexed_text Inner (with_commas decimal widths)).lexemes all.1 (all_widths [] widths h.each) in
     inside_back form.Widths (with_commas decimal widths) (value.Widths widths) all.0 (rw read refl)
+
+-- ---- cases
+
+abbrev case_phrase : ℤ → Phrase
+case_phrase (pos n) = number n
+case_phrase (negsuc n) = word (codes "-") ~ number (suc n)
+
+minus : Prints Inner (word (codes "-")) (codes "-") (Ends 45)
+minus = prints_piece Inner sort.Sign (codes "-") (Ends 45) (omega arith) (λ after f. rw f refl)
+
+case_prints : (z : ℤ) → FitsSigned w64 z → Prints Inner (case_phrase z) (signed_decimal z) (Fails is_number_byte)
+case_prints (pos n) h = number_prints n (let k : 2 ^ 63 < 2 ^ 64 = lit< tt in omega arith)
+case_prints (negsuc n) h =
+    prints_then Inner (word (codes "-")) (number (suc n)) (codes "-") (decimal (suc n)) (Ends 45) (Fails is_number_byte) minus (number_prints (suc n) (let k : 2 ^ 63 < 2 ^ 64 = lit< tt in omega arith))
+    (λ after f. ends_any 45 (λ c. rw (and_none (c == 61)) refl) (decimal (suc n) ++ after))
+
+abbrev FreshCase : List ℤ → ℤ → Type 0
+FreshCase found z = FitsSigned w64 z × (has_case found z ≡ false)
+
+no_minus : (bytes : List ℕ) → IsNumeral 10 bytes → bytes_eq bytes (codes "-") ≡ false
+no_minus [] h = refl
+no_minus (c ∷ bytes) h =
+    let range = digit_from_value c h.1.0 in
+    let other : (c == 45) ≡ false = ne_eqb c 45 (λ e. omega (arith, range.0, e)) in
+    rw other refl
+
+plain_case : (found : List ℤ) (n : ℕ) (t : Lexeme) (ts rest : List Lexeme) → FreshCase found (pos n) → number n (t ∷ ts) rest → case_at found (t ∷ ts) ≡ Ok (pos n, rest)
+unfolding case_at
+plain_case found n t ts rest f h =
+    let size : is_size 0 (2 ^ 63 - 1) t.bytes ≡ true = sized 0 (2 ^ 63 - 1) t.bytes n h.1.0 h.1.1 (omega arith) (let k = f.0 in omega arith) in
+    let fresh : has_case found (pos (digits_value 10 t.bytes)) ≡ false = ap (λ m. has_case found (pos m)) h.1.1 ∙ f.1 in
+    rw (lacks_other (codes "-") t ts (no_minus t.bytes h.1.0), sort_reads sort.Number (tt {0}) t ts h.0, size, fresh, h.1.1, h.2) refl
+
+minus_case : (found : List ℤ) (n : ℕ) (ts us rest : List Lexeme) → FreshCase found (negsuc n) → word (codes "-") ts us → number (suc n) us rest → case_at found ts ≡ Ok (negsuc n, rest)
+unfolding case_at
+minus_case found n ts [] rest f w h = absurd h
+minus_case found n ts (t ∷ us) rest f w h =
+    let size : is_size 0 (2 ^ 63) t.bytes ≡ true = sized 0 (2 ^ 63) t.bytes (suc n) h.1.0 h.1.1 (omega arith) (let k = f.0 in omega arith) in
+    let fresh : has_case found (neg_ℤ (pos (digits_value 10 t.bytes))) ≡ false = ap (λ m. has_case found (neg_ℤ (pos m))) h.1.1 ∙ f.1 in
+    rw (accepts (codes "-") ts (t ∷ us) w, sort_reads sort.Number (tt {0}) t us h.0, size, fresh, h.1.1, h.2) refl
+
+case_one : (found : List ℤ) (z : ℤ) (ts rest : List Lexeme) → FreshCase found z → case_phrase z ts rest → case_at found ts ≡ Ok (z, rest)
+case_one found (pos n) [] rest f h = absurd h
+case_one found (pos n) (t ∷ ts) rest f h = plain_case found n t ts rest f h
+case_one found (negsuc n) ts rest f h = minus_case found n ts h.0 rest f h.1 h.2
+
+case_fewer : (z : ℤ) (ts rest : List Lexeme) → case_phrase z ts rest → length rest < length ts
+case_fewer (pos n) ts rest h = token_fewer sort.Number _ ts rest h
+case_fewer (negsuc n) ts rest h =
+    let a = word_fewer (codes "-") ts h.0 h.1 in
+    let b = token_fewer sort.Number _ h.0 rest h.2 in
+    omega arith
+
+case_reads : Reads case_at case_phrase FreshCase
+case_reads = record { read = case_one; fewer = case_fewer }
+
+all_cases : (found cases : List ℤ) → AllByRecursion (FitsSigned w64) cases → CasesDiffer found cases → AllFresh FreshCase found cases
+all_cases found [] h d = tt
+all_cases found (z ∷ zs) h d = ((h.0, d.0), all_cases (found ++ z ∷ []) zs h.1 d.1)
+
+each_case : (cases : List ℤ) → AllByRecursion (FitsSigned w64) cases → EachPrints case_phrase signed_decimal (Fails is_number_byte) cases
+each_case [] h = tt
+each_case (z ∷ zs) h = (case_prints z h.0, each_case zs h.1)
+
+cases_back : (cases : List ℤ) → AreCases cases → value_of form.Cases (with_commas signed_decimal cases) ≡ Some (value.Cases cases)
+unfolding value_of
+cases_back cases h =
+    let all = whole_prints (listed case_phrase cases) (Fails is_number_byte) (with_commas signed_decimal cases) tt (list_prints case_phrase signed_decimal (Fails is_number_byte) (λ rest. refl) cases h.some (each_case cases h.each)) in
+    let read = listed_read case_at case_phrase FreshCase case_reads cases (lexed_text Inner (with_commas signed_decimal cases)).lexemes all.1 (all_cases [] cases h.each h.differ) in
+    inside_back form.Cases (with_commas signed_decimal cases) (value.Cases cases) all.0 (rw read refl)
 
 -- ---- pairs
 
@@ -320,6 +396,14 @@ missing_back missing.Drop = refl
 missing_back missing.Fail = refl
 missing_back missing.Reject = refl
 
+expression_back : (kept : List ℕ) → IsExpression kept → value_of form.Expression kept ≡ Some (value.Expression kept)
+unfolding value_of
+expression_back kept h = ap (option_map value.Expression) (kept_again kept h)
+
+set_is_back : (s : SetSpec) → IsSet s → value_of form.Setting (set_text s) ≡ Some (value.Set s)
+unfolding value_of
+set_is_back s h = ap (option_map value.Set) (set_back s h)
+
 pub values_back : ValuesReadBack
 values_back = record {
   file = file_back;
@@ -332,4 +416,7 @@ values_back = record {
   renames = renames_back;
   results = results_back;
   missing = missing_back;
+  expression = expression_back;
+  set = set_is_back;
+  cases = cases_back;
 }

@@ -7,7 +7,8 @@ use Rattle.ds_schema.specs.ColumnReading.{name_at as word_at, new_name_at as fre
 use Rattle.flow_graph.specs.declared.flow.Flow.{Flow}
 use Rattle.flow_graph.specs.declared.flow.Method.TheVariants as method
 use Rattle.flow_graph.specs.declared.flow.Flag.TheVariants as flag
-use Rattle.osh_value.specs.Values.{value_of, whole_at}
+use Rattle.ds_schema.specs.SchemaReading.{field_at, name_at as named_at, kind_at as type_at, kind_behind as type_behind}
+use Rattle.osh_value.specs.Values.{value_of, whole_at, set_value, target_at, with_commas, case_at}
 use Rattle.osh_read.specs.declared.fault.OshWhy.TheVariants as why
 use Rattle.osh_read.specs.Reading.{sign_at, repeated}
 use Rattle.osh_read.specs.Methods.{kind_at, flag_at, closed_at, behind_at, bracket_at, method_at}
@@ -65,9 +66,17 @@ pub unknown_option : flow_of (codes "copy -x") ≡ bad 5 why.UnknownOption
 unfolding flow_of limited_text flow_at is_joined sign_at repeated expect_at sort_at token_at accept_at finish_at names_at keys_at key_at fresh_at word_at further_at kind_at flag_at closed_at behind_at bracket_at method_at opt_at setting_at head_at marked_at input_at output_at stage_at piped_at ended_at stages_at directed_at value_of whole_at
 unknown_option = refl
 
-pub not_built : flow_of (codes "filter -where a") ≡ bad 0 why.UnknownOperator
+pub no_expression : flow_of (codes "filter -reject") ≡ bad 0 why.MissingOption
 unfolding flow_of limited_text flow_at is_joined sign_at repeated expect_at sort_at token_at accept_at finish_at names_at keys_at key_at fresh_at word_at further_at kind_at flag_at closed_at behind_at bracket_at method_at opt_at setting_at head_at marked_at input_at output_at stage_at piped_at ended_at stages_at directed_at value_of whole_at
-not_built = refl
+no_expression = refl
+
+pub no_equals : flow_of (codes "transform -set 'a: date b'") ≡ bad 15 why.BadValue
+unfolding flow_of limited_text flow_at is_joined sign_at repeated expect_at sort_at token_at accept_at finish_at names_at keys_at key_at fresh_at word_at further_at kind_at flag_at closed_at behind_at bracket_at method_at opt_at setting_at head_at marked_at input_at output_at stage_at piped_at ended_at stages_at directed_at value_of whole_at set_value target_at field_at named_at type_at type_behind
+no_equals = refl
+
+pub equal_cases : flow_of (codes "switch -cases '0,-0' -on a") ≡ bad 14 why.BadValue
+unfolding flow_of limited_text flow_at is_joined sign_at repeated expect_at sort_at token_at accept_at finish_at names_at keys_at key_at fresh_at word_at further_at kind_at flag_at closed_at behind_at bracket_at method_at opt_at setting_at head_at marked_at input_at output_at stage_at piped_at ended_at stages_at directed_at value_of whole_at with_commas case_at
+equal_cases = refl
 
 pub mark : flow_of (codes "export -file a [par]") ≡ bad 15 why.Constraint
 unfolding flow_of limited_text flow_at is_joined sign_at repeated expect_at sort_at token_at accept_at finish_at names_at keys_at key_at fresh_at word_at further_at kind_at flag_at closed_at behind_at bracket_at method_at opt_at setting_at head_at marked_at input_at output_at stage_at piped_at ended_at stages_at directed_at value_of whole_at

@@ -1,10 +1,11 @@
 -- An operator as the options that are printed of it.
-use Rattle.std.specs.Prelude.{◌≡◌, ℕ, Bool, true, false, ◌==◌, if◌then◌else◌, List, [], ◌∷◌, ◌++◌, map, Option, Some, None}
+use Rattle.std.specs.Prelude.{◌≡◌, ◌≤◌, ℕ, Bool, true, false, ◌==◌, if◌then◌else◌, List, [], ◌∷◌, ◌++◌, length, map, Option, Some, None}
 use Rattle.std.specs.List.{flat_map}
 use Rattle.op_base.specs.declared.missing.Missing.{Missing}
 use Rattle.op_base.specs.declared.missing.Missing.TheVariants as missing
 use Rattle.flow_graph.specs.declared.op_kind.AggSpec.{AggSpec}
 use Rattle.flow_graph.specs.declared.op_kind.AggSpec.TheVariants as agg
+use Rattle.flow_graph.specs.declared.op_kind.SetSpec.{SetSpec}
 use Rattle.flow_graph.specs.declared.op_kind.OpKind.{OpKind}
 use Rattle.flow_graph.specs.declared.op_kind.OpKind.TheVariants as kind
 use Rattle.osh_table.specs.declared.option.OptName.{OptName}
@@ -63,6 +64,9 @@ agg_opt (agg.Last new old) = opt.Last
 abbrev pub result_of : AggSpec → WrittenOption
 result_of r = one (agg_opt r) (agg_form r) false 0 (value.Result r)
 
+abbrev pub set_of : SetSpec → WrittenOption
+set_of s = one opt.Set form.Setting true 0 (value.Set s)
+
 -- the options of an operator, but for what stands by default
 abbrev pub written : OpKind → List WrittenOption
 written (kind.Import file schema delim fixed reject) = one opt.File form.File true 1 (value.Name file) ∷ one opt.Schema form.Schema true 2 (value.Schema schema) ∷ (delim_of 3 delim ++ (widths_of 3 fixed ++ flag_of opt.Reject 4 reject))
@@ -70,9 +74,9 @@ written (kind.Export file delim fixed) = one opt.File form.File true 1 (value.Na
 written (kind.Dsread ds) = one opt.Ds form.DataSet true 1 (value.Name ds) ∷ []
 written (kind.Dswrite ds) = one opt.Ds form.DataSet true 1 (value.Name ds) ∷ []
 written kind.Copy = []
-written (kind.Filter test reject) = []
-written (kind.Transform set reject) = []
-written (kind.Switch on cases reject) = []
+written (kind.Filter test reject) = one opt.Where form.Expression true 1 (value.Expression test) ∷ flag_of opt.Reject 2 reject
+written (kind.Transform set reject) = map set_of set ++ flag_of opt.Reject 1 reject
+written (kind.Switch on cases reject) = one opt.On form.Expression true 1 (value.Expression on) ∷ one opt.Cases form.Cases true 2 (value.Cases cases) ∷ flag_of opt.Reject 3 reject
 written (kind.Modify keep drop rename) = columns_of opt.Keep 1 keep ++ (columns_of opt.Drop 1 drop ++ renames_of rename)
 written (kind.Tsort key) = keys_of opt.Key true 1 key
 written (kind.Remdup key last) = keys_of opt.Key true 1 key ++ flag_of opt.Last 2 last
@@ -86,17 +90,15 @@ written (kind.Lookup key missing) = keys_of opt.Key true 1 key ++ missing_of mis
 written (kind.Changecapture key values keepcopy) = keys_of opt.Key true 1 key ++ (columns_of opt.Values 2 values ++ flag_of opt.Keepcopy 3 keepcopy)
 written (kind.Funnel sequence sort) = flag_of opt.Sequence 1 sequence ++ keys_of opt.Sort false 1 sort
 
--- an operator that is read and printed: one without expressions
-abbrev pub IsBuilt : OpKind → Type 0
-IsBuilt (kind.Filter test reject) = ⊥
-IsBuilt (kind.Transform set reject) = ⊥
-IsBuilt (kind.Switch on cases reject) = ⊥
-IsBuilt k = Unit {0}
+-- an operator that options can say: a transform sets a column
+abbrev pub CanBeSaid : OpKind → Type 0
+CanBeSaid (kind.Transform set reject) = 1 ≤ length set
+CanBeSaid k = Unit {0}
 
 -- the options that are printed of an operator say it
 abbrev pub WrittenSays : Type 0
-WrittenSays = (k : OpKind) → IsBuilt k → kind_of (name_of k) (map setting_of (written k)) ≡ Some k
+WrittenSays = (k : OpKind) → CanBeSaid k → kind_of (name_of k) (map setting_of (written k)) ≡ Some k
 
 -- they are what is printed
 abbrev pub WrittenIsPrinted : Type 0
-WrittenIsPrinted = (k : OpKind) → IsBuilt k → options_text k ≡ flat_map written_text (written k)
+WrittenIsPrinted = (k : OpKind) → CanBeSaid k → options_text k ≡ flat_map written_text (written k)

@@ -1,12 +1,12 @@
 -- Printed options are spelled as they are read.
-use Rattle.std.specs.Prelude.{◌≡◌, ℕ, Bool, true, false, not, ◌==◌, List, [], ◌∷◌, ◌++◌, Some}
+use Rattle.std.specs.Prelude.{◌≡◌, ℕ, true, not, ◌==◌, List, [], ◌∷◌, Some}
 use Rattle.std.specs.List.{list_all, flat_map, AllByRecursion}
 use Rattle.ds_lex.specs.declared.token.Mode.TheVariants.{Osh}
 use Rattle.ds_lex.specs.Pieces.{is_text_byte}
-use Rattle.ds_lex.specs.Lexemes.{Lexeme, lexed_text}
+use Rattle.ds_lex.specs.Lexemes.{lexed_text}
 use Rattle.ds_schema.specs.SchemaText.{schema_text}
 use Rattle.ds_schema.specs.ColumnText.{names_text, keys_text}
-use Rattle.std.specs.Fmt.{decimal}
+use Rattle.std.specs.Fmt.{decimal, signed_decimal}
 use Rattle.osh_table.specs.declared.operator.OpName.{OpName}
 use Rattle.osh_table.specs.declared.option.Form.{Form}
 use Rattle.osh_table.specs.declared.option.Form.TheVariants as form
@@ -15,7 +15,7 @@ use Rattle.osh_table.specs.Options.{row_named}
 use Rattle.osh_value.specs.declared.value.OptValue.{OptValue}
 use Rattle.osh_value.specs.declared.value.OptValue.TheVariants as value
 use Rattle.osh_value.specs.Values.{value_of}
-use Rattle.osh_print.specs.OptionText.{with_commas, pair_text, missing_word, quote_of, option_text, flag_text}
+use Rattle.osh_print.specs.OptionText.{with_commas, pair_text, set_text, missing_word, quote_of, option_text, flag_text}
 use Rattle.osh_sound.specs.Grammar.{WrittenOption, options_phrase}
 use Rattle.osh_sound.specs.ValueLaws.{agg_text}
 
@@ -31,6 +31,9 @@ value_text (value.Renames pairs) = with_commas pair_text pairs
 value_text (value.Keys keys) = keys_text keys
 value_text (value.Result r) = agg_text r
 value_text (value.Missing m) = missing_word m
+value_text (value.Expression expr) = expr
+value_text (value.Set set) = set_text set
+value_text (value.Cases cases) = with_commas signed_decimal cases
 
 abbrev pub by_form : Form → WrittenOption → List ℕ
 by_form form.Flag w = flag_text w.row.opt true

@@ -1,22 +1,28 @@
 -- What the printed value of an option is read as.
-use Rattle.std.specs.Prelude.{◌≡◌, ◌≤◌, ℕ, Bool, false, ◌==◌, ◌||◌, List, [], ◌∷◌, ◌++◌, length, Some}
+use Rattle.std.specs.Prelude.{◌≡◌, ◌≤◌, ℕ, ℤ, FitsSigned, Bool, false, ◌==◌, ◌||◌, List, [], ◌∷◌, ◌++◌, length, Some}
 use Rattle.std.specs.List.{AllByRecursion}
-use Rattle.std.specs.Fmt.{decimal}
+use Rattle.std.specs.Fmt.{decimal, signed_decimal}
+use Rattle.std.specs.Int.{w64}
 use Rattle.op_base.specs.declared.missing.Missing.{Missing}
 use Rattle.ds_schema.specs.declared.schema.Field.{Field}
 use Rattle.ds_value.specs.Names.{IsName}
+use Rattle.ds_lex.specs.declared.token.Mode.TheVariants.{Inner}
+use Rattle.ds_lex.specs.Lexemes.{lexed_text}
 use Rattle.ds_lex.specs.Tokens.{IsWord}
-use Rattle.ds_schema.specs.Schemas.{IsFieldName, IsSchema}
+use Rattle.ds_schema.specs.Schemas.{IsFieldName, IsField, IsSchema}
 use Rattle.ds_schema.specs.SchemaText.{schema_text}
 use Rattle.ds_schema.specs.ColumnGrammar.{AreNamed, itself, key_name}
 use Rattle.ds_schema.specs.ColumnText.{names_text, keys_text}
+use Rattle.expr_read.specs.declared.tree.Expr.{Expr}
+use Rattle.expr_read.specs.Grammar.{IsSpelled}
+use Rattle.flow_graph.specs.declared.op_kind.SetSpec.{SetSpec}
 use Rattle.flow_graph.specs.declared.op_kind.AggSpec.{AggSpec}
 use Rattle.flow_graph.specs.declared.op_kind.AggSpec.TheVariants as agg
 use Rattle.osh_table.specs.declared.option.Form.{Form}
 use Rattle.osh_table.specs.declared.option.Form.TheVariants as form
 use Rattle.osh_value.specs.declared.value.OptValue.TheVariants as value
-use Rattle.osh_value.specs.Values.{has_old, value_of}
-use Rattle.osh_print.specs.OptionText.{with_commas, pair_text, missing_word}
+use Rattle.osh_value.specs.Values.{has_old, has_case, spanned, value_of}
+use Rattle.osh_print.specs.OptionText.{with_commas, pair_text, set_text, missing_word}
 
 -- the bytes of a result, and its option
 abbrev pub agg_text : AggSpec → List ℕ
@@ -75,6 +81,27 @@ pub record AreKeys (keys : List (List ℕ × Bool)) : Type 0 where
   pub named : AreNamed key_name keys
   pub words : AllByRecursion (λ (k : List ℕ × Bool). IsWord k.0) keys
 
+-- what is kept of a text that spells an expression: its bytes from the first token to the end of the last
+pub record IsExpression (kept : List ℕ) : Type 0 where
+  pub text : List ℕ
+  pub expr : Expr
+  pub spelled : IsSpelled text expr
+  pub is : kept ≡ spanned text (lexed_text Inner text).lexemes
+
+-- a column that a schema can have, and what is kept of an expression
+abbrev pub IsSet : SetSpec → Type 0
+IsSet s = IsField s.field × IsExpression s.expr
+
+-- no case stands before
+abbrev pub CasesDiffer : List ℤ → List ℤ → Type 0
+CasesDiffer before [] = Unit {0}
+CasesDiffer before (z ∷ zs) = (has_case before z ≡ false) × CasesDiffer (before ++ z ∷ []) zs
+
+pub record AreCases (cases : List ℤ) : Type 0 where
+  pub some : 1 ≤ length cases
+  pub each : AllByRecursion (FitsSigned w64) cases
+  pub differ : CasesDiffer [] cases
+
 -- what is printed of a value is read as the value
 pub record ValuesReadBack : Type 0 where
   pub file : (name : List ℕ) → IsName name → value_of form.File name ≡ Some (value.Name name)
@@ -87,3 +114,6 @@ pub record ValuesReadBack : Type 0 where
   pub renames : (pairs : List (List ℕ × List ℕ)) → ArePairs pairs → value_of form.Renames (with_commas pair_text pairs) ≡ Some (value.Renames pairs)
   pub results : (r : AggSpec) → IsResult r → value_of (agg_form r) (agg_text r) ≡ Some (value.Result r)
   pub missing : (m : Missing) → value_of form.Missing (missing_word m) ≡ Some (value.Missing m)
+  pub expression : (kept : List ℕ) → IsExpression kept → value_of form.Expression kept ≡ Some (value.Expression kept)
+  pub set : (s : SetSpec) → IsSet s → value_of form.Setting (set_text s) ≡ Some (value.Set s)
+  pub cases : (cases : List ℤ) → AreCases cases → value_of form.Cases (with_commas signed_decimal cases) ≡ Some (value.Cases cases)

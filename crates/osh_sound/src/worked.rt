@@ -21,7 +21,9 @@ pub fn refused_texts()
     ensures excluded { flow_of (codes "funnel -sequence -sort a") ≡ bad 17 why.DoubleOption }
     ensures flag_value { flow_of (codes "remdup -key a -last x") ≡ bad 20 why.BadValue }
     ensures unknown_option { flow_of (codes "copy -x") ≡ bad 5 why.UnknownOption }
-    ensures not_built { flow_of (codes "filter -where a") ≡ bad 0 why.UnknownOperator }
+    ensures no_expression { flow_of (codes "filter -reject") ≡ bad 0 why.MissingOption }
+    ensures no_equals { flow_of (codes "transform -set 'a: date b'") ≡ bad 15 why.BadValue }
+    ensures equal_cases { flow_of (codes "switch -cases '0,-0' -on a") ≡ bad 14 why.BadValue }
     ensures mark { flow_of (codes "export -file a [par]") ≡ bad 15 why.Constraint }
     ensures mark_broken { flow_of (codes "export -file a [par x") ≡ bad 20 why.Syntax }
     ensures mark_first { flow_of (codes "dsread -ds a [seq] $") ≡ bad 13 why.Constraint }

@@ -57,10 +57,9 @@ option_word opt.Keepcopy = codes "-keepcopy"
 option_word opt.Sequence = codes "-sequence"
 option_word opt.Sort = codes "-sort"
 
--- the operators that are read: all but filter, transform and switch
 abbrev pub operators : List OpName
 operators =
-    op.Import ∷ op.Export ∷ op.Dsread ∷ op.Dswrite ∷ op.Copy ∷ op.Modify ∷ op.Tsort ∷ op.Remdup ∷ op.Group
+    op.Import ∷ op.Export ∷ op.Dsread ∷ op.Dswrite ∷ op.Copy ∷ op.Filter ∷ op.Transform ∷ op.Modify ∷ op.Switch ∷ op.Tsort ∷ op.Remdup ∷ op.Group
     ∷ op.InnerJoin ∷ op.LeftOuterJoin ∷ op.RightOuterJoin ∷ op.FullOuterJoin ∷ op.Merge ∷ op.Lookup ∷ op.Changecapture ∷ op.Funnel ∷ []
 
 abbrev pub operator_among : List OpName → List ℕ → Option OpName

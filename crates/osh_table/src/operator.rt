@@ -26,14 +26,16 @@ pub enum OpName {
     Funnel,
 }
 
-/// The operators that are read. Those with expressions aren't yet.
-static OPERATORS: [OpName; 17] = [
+static OPERATORS: [OpName; 20] = [
     OpName::Import,
     OpName::Export,
     OpName::Dsread,
     OpName::Dswrite,
     OpName::Copy,
+    OpName::Filter,
+    OpName::Transform,
     OpName::Modify,
+    OpName::Switch,
     OpName::Tsort,
     OpName::Remdup,
     OpName::Group,

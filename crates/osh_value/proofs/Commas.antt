@@ -1,5 +1,5 @@
 -- Steps of reading a list with commas.
-use Rattle.std.proofs.Common.{◌≡◌, ◌≢◌, ◌-◌, ◌++◌, ◌∷◌, [], ℕ, zero, suc, List, Result, Ok, Err, Bool, true, false, refl, ap, sym, ◌∙◌, arith}
+use Rattle.std.proofs.Common.{◌≡◌, ◌≢◌, ◌-◌, ◌++◌, ◌∷◌, [], ℕ, zero, suc, List, Result, Ok, Err, true, false, refl, arith}
 use Rattle.std.specs.Prelude.{if◌then◌else◌, codes}
 use Rattle.ds_lex.specs.declared.refusal.Refusal.{Refusal}
 use Rattle.ds_lex.specs.declared.refusal.Refusal.TheVariants as refusal

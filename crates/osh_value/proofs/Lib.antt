@@ -1,3 +1,4 @@
 pub mod Commas
 pub mod Names
 pub mod Results
+pub mod Sets

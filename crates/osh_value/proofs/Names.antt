@@ -1,5 +1,5 @@
 -- What is a name, as a test and as a fact.
-use Rattle.std.proofs.Common.{◌≡◌, ℕ, List, Option, Some, None, true, refl, ap}
+use Rattle.std.proofs.Common.{◌≡◌, ℕ, List, Option, Some, None, true, refl}
 use Rattle.std.specs.Prelude.{if◌then◌else◌, Result, Ok, Err, IfOk}
 use Rattle.ds_value.specs.declared.memory.NoMemory.{NoMemory}
 use Rattle.std.specs.Option.{SomeIff}

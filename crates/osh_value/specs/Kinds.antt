@@ -1,9 +1,10 @@
 -- The operator that options with their values say.
-use Rattle.std.specs.Prelude.{ℕ, List, [], ◌∷◌, filter_map, Option, Some, None, Bool, true, false, ◌==◌, if◌then◌else◌}
+use Rattle.std.specs.Prelude.{ℕ, ℤ, List, [], ◌∷◌, filter_map, Option, Some, None, Bool, true, false, ◌==◌, if◌then◌else◌}
 use Rattle.op_base.specs.declared.missing.Missing.{Missing}
 use Rattle.op_base.specs.declared.missing.Missing.TheVariants as missing
 use Rattle.ds_schema.specs.declared.schema.Field.{Field}
 use Rattle.flow_graph.specs.declared.op_kind.AggSpec.{AggSpec}
+use Rattle.flow_graph.specs.declared.op_kind.SetSpec.{SetSpec}
 use Rattle.flow_graph.specs.declared.op_kind.OpKind.{OpKind}
 use Rattle.flow_graph.specs.declared.op_kind.OpKind.TheVariants as kind
 use Rattle.osh_table.specs.declared.operator.OpName.{OpName}
@@ -86,6 +87,22 @@ abbrev pub missing_in : Option OptValue → Missing
 missing_in (Some (value.Missing m)) = m
 missing_in other = missing.Fail
 
+abbrev pub expression_in : Option OptValue → Option (List ℕ)
+expression_in (Some (value.Expression expr)) = Some expr
+expression_in other = None
+
+abbrev pub cases_in : Option OptValue → Option (List ℤ)
+cases_in (Some (value.Cases cases)) = Some cases
+cases_in other = None
+
+abbrev pub set_in : OptValue → Option SetSpec
+set_in (value.Set set) = Some set
+set_in other = None
+
+-- the columns that a transform sets, in the written order
+abbrev pub sets_of : List Setting → List SetSpec
+sets_of ss = filter_map (λ (s : Setting). set_in s.value) ss
+
 abbrev pub result_in : OptValue → Option AggSpec
 result_in (value.Result r) = Some r
 result_in other = None
@@ -113,6 +130,21 @@ stored_kind other ds = kind.Dswrite ds
 abbrev pub stored : OpName → List Setting → Option OpKind
 stored o ss = with_value (name_in (found_value opt.Ds ss)) (λ ds. Some (stored_kind o ds))
 
+abbrev pub filter_of : List Setting → Option OpKind
+filter_of ss = with_value (expression_in (found_value opt.Where ss)) (λ test. Some (kind.Filter test (stands (found_value opt.Reject ss))))
+
+-- a transform sets at least one column
+abbrev pub transform_by : List SetSpec → Bool → Option OpKind
+transform_by [] reject = None
+transform_by (s ∷ set) reject = Some (kind.Transform (s ∷ set) reject)
+
+abbrev pub transform_of : List Setting → Option OpKind
+transform_of ss = transform_by (sets_of ss) (stands (found_value opt.Reject ss))
+
+abbrev pub switch_of : List Setting → Option OpKind
+switch_of ss = with_value (expression_in (found_value opt.On ss)) (λ on. with_value (cases_in (found_value opt.Cases ss)) (λ cases.
+    Some (kind.Switch on cases (stands (found_value opt.Reject ss)))))
+
 abbrev pub modify_of : List Setting → OpKind
 modify_of ss = kind.Modify (columns_in (found_value opt.Keep ss)) (columns_in (found_value opt.Drop ss)) (renames_in (found_value opt.Rename ss))
 
@@ -138,16 +170,16 @@ keyed_by other key ss = kind.Lookup key (missing_in (found_value opt.Missing ss)
 abbrev pub keyed : OpName → List Setting → OpKind
 keyed o ss = keyed_by o (keys_in (found_value opt.Key ss)) ss
 
--- the operator that the options say; none where one lacks that it must have, or where it isn't read yet
+-- the operator that the options say; none where one lacks that it must have
 abbrev pub kind_of : OpName → List Setting → Option OpKind
 kind_of op.Import ss = import_of ss
 kind_of op.Export ss = export_of ss
 kind_of op.Dsread ss = stored op.Dsread ss
 kind_of op.Dswrite ss = stored op.Dswrite ss
 kind_of op.Copy ss = Some kind.Copy
-kind_of op.Filter ss = None
-kind_of op.Transform ss = None
-kind_of op.Switch ss = None
+kind_of op.Filter ss = filter_of ss
+kind_of op.Transform ss = transform_of ss
+kind_of op.Switch ss = switch_of ss
 kind_of op.Modify ss = Some (modify_of ss)
 kind_of op.Group ss = Some (group_of ss)
 kind_of op.Changecapture ss = Some (changecapture_of ss)

@@ -1,7 +1,9 @@
 -- What the value of an option says, by its form.
-use Rattle.std.specs.Prelude.{◌≡◌, ℕ, zero, suc, ◌-◌, List, [], ◌∷◌, ◌++◌, length, drop, take, Result, Ok, Err, Option, Some, None, Bool, true, false, not, ◌&&◌, ◌||◌, nat_le, ◌==◌, if◌then◌else◌, codes}
+use Rattle.std.specs.Prelude.{ℕ, zero, suc, ◌+◌, ◌-◌, ◌^◌, ℤ, pos, neg_ℤ, List, [], ◌∷◌, ◌++◌, length, drop, take, Result, Ok, Err, Option, Some, None, Bool, ◌||◌, nat_le, ◌==◌, if◌then◌else◌, codes}
 use Rattle.std.specs.List.{list_any}
 use Rattle.std.specs.Option.{option_map}
+use Rattle.std.specs.Ordering.{int_eq}
+use Rattle.std.specs.Result.{is_ok}
 use Rattle.std.specs.Str.{bytes_eq}
 use Rattle.std.specs.Str.Parse.{digits_value}
 use Rattle.op_base.specs.declared.missing.Missing.{Missing}
@@ -11,14 +13,18 @@ use Rattle.ds_lex.specs.declared.token.Sort.{Sort}
 use Rattle.ds_lex.specs.declared.token.Sort.TheVariants as sort
 use Rattle.ds_lex.specs.declared.refusal.Refusal.{Refusal}
 use Rattle.ds_lex.specs.declared.refusal.Refusal.TheVariants as refusal
-use Rattle.ds_lex.specs.Lexemes.{Lexeme, LexedText, lexed_text}
+use Rattle.ds_lex.specs.Lexemes.{Lexeme, lexed_text}
 use Rattle.ds_lex.specs.Reading.{◌>>=◌, refuse, sort_at, expect_at, accept_at, finish_at}
 use Rattle.ds_schema.specs.declared.schema.Field.{Field}
 use Rattle.ds_schema.specs.declared.schema_text.fault.SchemaFault.{SchemaFault}
+use Rattle.ds_schema.specs.declared.schema_text.fault.SchemaWhy.{SchemaWhy}
+use Rattle.ds_schema.specs.declared.schema_text.fault.SchemaWhy.TheVariants as schema_why
 use Rattle.ds_schema.specs.ColumnReading.{is_name, held, names_at, keys_at}
-use Rattle.ds_schema.specs.SchemaReading.{schema_of, is_field_name, is_size}
+use Rattle.ds_schema.specs.SchemaReading.{schema_of, is_field_name, is_size, field_at}
+use Rattle.expr_read.specs.Reading.{expr_of}
 use Rattle.flow_graph.specs.declared.op_kind.AggSpec.{AggSpec}
 use Rattle.flow_graph.specs.declared.op_kind.AggSpec.TheVariants as agg
+use Rattle.flow_graph.specs.declared.op_kind.SetSpec.{SetSpec}
 use Rattle.osh_table.specs.declared.option.Form.{Form}
 use Rattle.osh_table.specs.declared.option.Form.TheVariants as form
 use Rattle.osh_value.specs.declared.value.OptValue.{OptValue}
@@ -61,6 +67,45 @@ missing_named word =
     else if bytes_eq word (codes "fail") then Some missing.Fail
     else if bytes_eq word (codes "reject") then Some missing.Reject
     else None
+
+-- ---- expressions
+
+-- the place behind a token
+abbrev pub place_behind : Lexeme → ℕ
+place_behind t = t.at + length t.bytes
+
+-- the last of some tokens, of which t is the first
+abbrev pub last_of : Lexeme → List Lexeme → Lexeme
+last_of t [] = t
+last_of t (u ∷ ts) = last_of u ts
+
+-- the bytes from the first of these tokens to the end of the last
+abbrev pub spanned : List ℕ → List Lexeme → List ℕ
+spanned text [] = []
+spanned text (t ∷ ts) = drop t.at (take (place_behind (last_of t ts)) text)
+
+-- what is kept of a text that spells an expression: its bytes without what stands before its first token and behind its last
+unfoldable pub kept_expression : List ℕ → Option (List ℕ)
+kept_expression text = if is_ok (expr_of text) then Some (spanned text (lexed_text Inner text).lexemes) else None
+
+-- `name: type =` at the front, the column as a field of a schema: the field, and the place of the `=`
+unfoldable pub target_at : List Lexeme → Result ((Field × ℕ) × List Lexeme) (Refusal SchemaWhy)
+target_at ts = do
+  f ← field_at [] ts
+  is ← expect_at (codes "=") schema_why.Syntax f.1
+  Ok ((f.0, is.0.at), is.1)
+
+abbrev pub set_to : Field → Option (List ℕ) → Option SetSpec
+set_to field None = None
+set_to field (Some expr) = Some (record { field = field; expr = expr })
+
+abbrev pub set_by : List ℕ → Result ((Field × ℕ) × List Lexeme) (Refusal SchemaWhy) → Option SetSpec
+set_by text (Ok x) = set_to x.0.0 (kept_expression (drop (x.0.1 + 1) text))
+set_by text (Err e) = None
+
+-- `name: type = E`: the column, and what is kept of the expression behind the `=`
+unfoldable pub set_value : List ℕ → Option SetSpec
+set_value text = set_by text (target_at (lexed_text Inner text).lexemes)
 
 -- ---- values that are read as tokens
 
@@ -107,6 +152,27 @@ width_at ts = do
 abbrev pub widths_at : List Lexeme → Inside (List ℕ)
 widths_at ts = with_commas (λ found. width_at) (length ts) [] ts
 
+-- the greatest number of this sign in the range of int64
+abbrev pub greatest_case : Bool → ℕ
+greatest_case minus = if minus then 2 ^ 63 else 2 ^ 63 - 1
+
+abbrev pub signed_case : Bool → ℕ → ℤ
+signed_case minus n = if minus then neg_ℤ (pos n) else pos n
+
+abbrev pub has_case : List ℤ → ℤ → Bool
+has_case found z = list_any (λ case. int_eq case z) found
+
+-- a whole number in the range of int64, with an optional `-`, that is none of those before
+unfoldable pub case_at : List ℤ → List Lexeme → Inside ℤ
+case_at found ts = do
+  n ← sort_at sort.Number tt (accept_at (codes "-") ts).1
+  fits ← if is_size 0 (greatest_case (accept_at (codes "-") ts).0) n.0.bytes then Ok n.0 else refuse n.0 tt
+  new ← if has_case found (signed_case (accept_at (codes "-") ts).0 (digits_value 10 n.0.bytes)) then refuse n.0 tt else Ok n.0
+  Ok (signed_case (accept_at (codes "-") ts).0 (digits_value 10 n.0.bytes), n.1)
+
+abbrev pub cases_at : List Lexeme → Inside (List ℤ)
+cases_at ts = with_commas case_at (length ts) [] ts
+
 -- a new column of a group, made of an old one
 abbrev pub result_of : Form → List ℕ → List ℕ → AggSpec
 result_of form.Min new old = agg.Min new old
@@ -124,6 +190,7 @@ said_at form.Widths ts = widths_at ts >>= λ x. Ok (value.Widths x.0, x.1)
 said_at form.Columns ts = names_at tt ts >>= λ x. Ok (value.Columns x.0, x.1)
 said_at form.Keys ts = keys_at tt ts >>= λ x. Ok (value.Keys x.0, x.1)
 said_at form.Renames ts = renames_at ts >>= λ x. Ok (value.Renames x.0, x.1)
+said_at form.Cases ts = cases_at ts >>= λ x. Ok (value.Cases x.0, x.1)
 said_at form.Count ts = new_name_at ts >>= λ x. Ok (value.Result (agg.Count x.0), x.1)
 said_at form.Sum ts = made_result form.Sum ts
 said_at form.Min ts = made_result form.Min ts
@@ -150,7 +217,7 @@ unless_bad (Some at) said = None
 abbrev pub inside : Form → List ℕ → Option OptValue
 inside f bytes = unless_bad (lexed_text Inner bytes).bad (if_read (whole_at f (lexed_text Inner bytes).lexemes))
 
--- what bytes of this form say; those of a flag say nothing, and expressions aren't read yet
+-- what bytes of this form say; those of a flag say nothing
 unfoldable pub value_of : Form → List ℕ → Option OptValue
 value_of form.Flag bytes = None
 value_of form.File bytes = file_value bytes
@@ -158,7 +225,6 @@ value_of form.DataSet bytes = data_set_value bytes
 value_of form.Schema bytes = schema_value (schema_of bytes)
 value_of form.Delim bytes = delim_value bytes
 value_of form.Missing bytes = option_map value.Missing (missing_named bytes)
-value_of form.Expression bytes = None
-value_of form.Setting bytes = None
-value_of form.Cases bytes = None
+value_of form.Expression bytes = option_map value.Expression (kept_expression bytes)
+value_of form.Setting bytes = option_map value.Set (set_value bytes)
 value_of other bytes = inside other bytes

@@ -1,6 +1,8 @@
 //! The values of options.
 #![tactic(auto)]
 
+mod cases;
+mod expression;
 mod lists;
 mod name;
 mod setting;

@@ -15,7 +15,7 @@ use ds_value::{Items, Name};
 use std::alloc::Global;
 
 /// Inside a value no cause is told.
-fn refuse(token: Lexeme<'_>) -> Stop<()>
+pub fn refuse(token: Lexeme<'_>) -> Stop<()>
     ensures { result ≡ stop.Refused (Refusal.At token.entry.at tt) }
 {
     Stop::Refused(Refusal::At {

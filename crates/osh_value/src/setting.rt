@@ -3,12 +3,12 @@
 ghost use Rattle.std.specs.Prelude.{◌≡◌, ◌++◌, ◌∷◌, [], IfOk, OnOk, Some, None};
 ghost use Rattle.std.specs.Option.{option_copied};
 ghost use Rattle.osh_table.specs.declared.option.OptName.TheVariants as opt;
-ghost use Rattle.osh_value.specs.Kinds.{columns_in, delim_in, export_of, changecapture_of, found_value, funnel_of, group_of, import_of, keyed, keys_in, kind_of, missing_in, modify_of, name_in, number_of, renames_in, results_of, schema_in, stands, stored, widths_in};
+ghost use Rattle.osh_value.specs.Kinds.{cases_in, columns_in, delim_in, export_of, expression_in, changecapture_of, filter_of, found_value, funnel_of, group_of, import_of, keyed, keys_in, kind_of, missing_in, modify_of, name_in, number_of, renames_in, results_of, schema_in, sets_of, stands, stored, switch_of, transform_by, transform_of, widths_in};
 
 use crate::value::OptValue;
 use ds_schema::Schema;
-use ds_value::{Copied, Items, Name, NoMemory};
-use flow_graph::{AggSpec, OpKind};
+use ds_value::{Bytes, Copied, Items, Name, NoMemory};
+use flow_graph::{AggSpec, OpKind, SetSpec};
 use op_base::Missing;
 use osh_table::{OpName, OptName};
 use std::alloc::Global;
@@ -124,6 +124,48 @@ fn missing_in(settings: &[Setting]) -> Missing
     }
 }
 
+fn expression_in(opt: OptName, settings: &[Setting]) -> Result<Option<Bytes>, NoMemory>
+    ensures { IfOk result (λ expr. expr ≡ expression_in (found_value opt settings.now)) }
+{
+    match found_value(opt, settings) {
+        Some(OptValue::Expression(expr)) => Ok(Some(expr.copied()?)),
+        _ => Ok(None),
+    }
+}
+
+fn cases_in(settings: &[Setting]) -> Result<Option<Items<i64>>, NoMemory>
+    ensures { IfOk result (λ cases. cases ≡ cases_in (found_value opt.Cases settings.now)) }
+{
+    match found_value(OptName::Cases, settings) {
+        Some(OptValue::Cases(cases)) => Ok(Some(cases.copied()?)),
+        _ => Ok(None),
+    }
+}
+
+/// Appends the column that an option sets, where it sets one.
+fn append_set(found: &mut Items<SetSpec>, setting: &Setting) -> Result<(), NoMemory>
+    ensures { OnOk result (found.new ≡ found.old ++ sets_of (setting.now ∷ [])) }
+{
+    match &setting.value {
+        OptValue::Set(set) => {
+            found.push(set.copied()?)?;
+            Ok(())
+        }
+        _ => Ok(()),
+    }
+}
+
+/// The columns that a transform sets, in the written order.
+fn sets(alloc: Global, settings: &[Setting]) -> Result<Items<SetSpec>, NoMemory>
+    ensures { IfOk result (λ sets. sets ≡ sets_of settings.now) }
+{
+    let mut found = Items::new(alloc);
+    for setting in settings {
+        append_set(&mut found, setting)?;
+    }
+    Ok(found)
+}
+
 /// Appends the result that an option says, where it says one.
 fn append_result(found: &mut Items<AggSpec>, setting: &Setting) -> Result<(), NoMemory>
     ensures { OnOk result (found.new ≡ found.old ++ results_of (setting.now ∷ [])) }
@@ -192,6 +234,50 @@ fn stored(op: OpName, settings: &[Setting]) -> Result<Option<OpKind>, NoMemory>
         OpName::Dsread => Ok(Some(OpKind::Dsread { ds })),
         _ => Ok(Some(OpKind::Dswrite { ds })),
     }
+}
+
+fn filter_of(settings: &[Setting]) -> Result<Option<OpKind>, NoMemory>
+    ensures { IfOk result (λ kind. kind ≡ filter_of settings.now) }
+{
+    let Some(test) = expression_in(OptName::Where, settings)? else {
+        return Ok(None);
+    };
+    Ok(Some(OpKind::Filter {
+        test,
+        reject: stands(OptName::Reject, settings),
+    }))
+}
+
+fn transform_by(set: Items<SetSpec>, reject: bool) -> Option<OpKind>
+    ensures { result ≡ transform_by set reject }
+{
+    match set.as_slice() {
+        [] => None,
+        _ => Some(OpKind::Transform { set, reject }),
+    }
+}
+
+fn transform_of(alloc: Global, settings: &[Setting]) -> Result<Option<OpKind>, NoMemory>
+    ensures { IfOk result (λ kind. kind ≡ transform_of settings.now) }
+{
+    let set = sets(alloc, settings)?;
+    Ok(transform_by(set, stands(OptName::Reject, settings)))
+}
+
+fn switch_of(settings: &[Setting]) -> Result<Option<OpKind>, NoMemory>
+    ensures { IfOk result (λ kind. kind ≡ switch_of settings.now) }
+{
+    let Some(on) = expression_in(OptName::On, settings)? else {
+        return Ok(None);
+    };
+    let Some(cases) = cases_in(settings)? else {
+        return Ok(None);
+    };
+    Ok(Some(OpKind::Switch {
+        on,
+        cases,
+        reject: stands(OptName::Reject, settings),
+    }))
 }
 
 fn modify_of(alloc: Global, settings: &[Setting]) -> Result<OpKind, NoMemory>
@@ -273,11 +359,13 @@ pub fn kind_of(alloc: Global, op: OpName, settings: &[Setting]) -> Result<Option
         OpName::Export => export_of(settings),
         OpName::Dsread | OpName::Dswrite => stored(op, settings),
         OpName::Copy => Ok(Some(OpKind::Copy)),
+        OpName::Filter => filter_of(settings),
+        OpName::Transform => transform_of(alloc, settings),
         OpName::Modify => Ok(Some(modify_of(alloc, settings)?)),
+        OpName::Switch => switch_of(settings),
         OpName::Group => Ok(Some(group_of(alloc, settings)?)),
         OpName::Changecapture => Ok(Some(changecapture_of(alloc, settings)?)),
         OpName::Funnel => Ok(Some(funnel_of(alloc, settings)?)),
-        OpName::Filter | OpName::Transform | OpName::Switch => Ok(None),
         OpName::Tsort
         | OpName::Remdup
         | OpName::InnerJoin

@@ -5,15 +5,17 @@ ghost use Rattle.std.specs.Option.{option_map};
 ghost use Rattle.ds_lex.specs.Lexemes.{lexemes};
 ghost use Rattle.ds_lex.specs.Reading.{Moves, Gives};
 ghost use Rattle.ds_schema.specs.SchemaReading.{schema_of};
-ghost use Rattle.osh_value.specs.Values.{data_set_value, delim_value, file_value, inside, missing_named, result_of, said_at, schema_value, value_of, whole_at};
+ghost use Rattle.osh_value.specs.Values.{data_set_value, delim_value, file_value, inside, kept_expression, missing_named, result_of, said_at, schema_value, set_value, value_of, whole_at};
 ghost use Rattle.osh_value.specs.declared.value.OptValue.TheVariants as value;
 
+use crate::cases::cases;
+use crate::expression::{kept_expression, set_value};
 use crate::lists::{new_name, pair, renames, widths};
 use crate::name::name_of;
 use ds_lex::{Cursor, LexedText, Lexeme, Mode, Refusal, Stop, lex};
 use ds_schema::{Schema, SchemaFault, parse_keys, parse_names, read_schema};
-use ds_value::{Items, Name, NoMemory};
-use flow_graph::AggSpec;
+use ds_value::{Bytes, Items, Name, NoMemory};
+use flow_graph::{AggSpec, SetSpec};
 use op_base::Missing;
 use osh_table::Form;
 use std::alloc::Global;
@@ -30,6 +32,9 @@ pub enum OptValue {
     Keys(Items<(Name, bool)>),
     Result(AggSpec),
     Missing(Missing),
+    Expression(Bytes),
+    Set(SetSpec),
+    Cases(Items<i64>),
 }
 
 fn file_value(alloc: Global, bytes: &[u8]) -> Result<Option<OptValue>, NoMemory>
@@ -100,6 +105,24 @@ fn missing_value(word: &[u8]) -> Option<OptValue>
     }
 }
 
+fn expression_value(alloc: Global, bytes: &[u8]) -> Result<Option<OptValue>, NoMemory>
+    ensures { IfOk result (λ v. v ≡ option_map value.Expression (kept_expression bytes.now)) }
+{
+    match kept_expression(alloc, bytes)? {
+        Some(expr) => Ok(Some(OptValue::Expression(expr))),
+        None => Ok(None),
+    }
+}
+
+fn setting_value(alloc: Global, bytes: &[u8]) -> Result<Option<OptValue>, NoMemory>
+    ensures { IfOk result (λ v. v ≡ option_map value.Set (set_value bytes.now)) }
+{
+    match set_value(alloc, bytes)? {
+        Some(set) => Ok(Some(OptValue::Set(set))),
+        None => Ok(None),
+    }
+}
+
 /// A new column of a group, made of an old one.
 fn result_of(form: Form, new: Name, old: Name) -> AggSpec
     ensures { result ≡ result_of form new old }
@@ -122,6 +145,7 @@ fn said(alloc: Global, form: Form, cursor: &mut Cursor<'_>) -> Result<OptValue, 
         Form::Columns => Ok(OptValue::Columns(parse_names(alloc, cursor, ())?)),
         Form::Keys => Ok(OptValue::Keys(parse_keys(alloc, cursor, ())?)),
         Form::Renames => Ok(OptValue::Renames(renames(alloc, cursor)?)),
+        Form::Cases => Ok(OptValue::Cases(cases(alloc, cursor)?)),
         Form::Count => Ok(OptValue::Result(AggSpec::Count(new_name(alloc, cursor)?))),
         Form::Sum | Form::Min | Form::Max | Form::First | Form::Last => {
             let (new, old) = pair(alloc, cursor)?;
@@ -167,7 +191,9 @@ pub fn value_of(alloc: Global, form: Form, bytes: &[u8]) -> Result<Option<OptVal
         Form::Schema => schema_value(alloc, bytes),
         Form::Delim => Ok(delim_value(bytes)),
         Form::Missing => Ok(missing_value(bytes)),
-        Form::Flag | Form::Expression | Form::Setting | Form::Cases => Ok(None),
+        Form::Expression => expression_value(alloc, bytes),
+        Form::Setting => setting_value(alloc, bytes),
+        Form::Flag => Ok(None),
         _ => inside(alloc, form, bytes),
     }
 }

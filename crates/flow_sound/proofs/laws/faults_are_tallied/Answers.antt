@@ -1,4 +1,4 @@
-use Rattle.flow_sound.proofs.Tallying.{export_tallied, meaning_tallied, partitions_tallied, run_tallied}
+use Rattle.flow_sound.proofs.Tallying.{export_tallied, meaning_tallied, partitions_tallied, run_tallied, work_tallied}
 use Rattle.flow_sound.proofs.laws.faults_are_tallied.Goals as goal
 
 pub returns-clause-meaning : goal.returns-clause-meaning
@@ -12,3 +12,6 @@ returns-clause-export c = export_tallied
 
 pub returns-clause-partitions : goal.returns-clause-partitions
 returns-clause-partitions c = partitions_tallied
+
+pub returns-clause-work : goal.returns-clause-work
+returns-clause-work c = work_tallied

@@ -9,6 +9,7 @@ use Rattle.list_run.specs.declared.held.Held.{Held}
 use Rattle.list_run.specs.Held.{Puts, outputs}
 use Rattle.list_run.specs.Made.{made}
 use Rattle.list_run.proofs.Links.{same_at}
+use Rattle.list_run.proofs.Tallying.{still}
 use Rattle.list_run.proofs.run.pass_on.Goals as goal
 
 pub returns : goal.returns
@@ -25,11 +26,12 @@ returns c =
     ∙ ap (λ (k : OpKind). map (made k c.parts.result.now.keys) c.take_at-got.result) kind
     ∙ ap (λ (ks : List (List Key)). map (made (op_at chart op).kind ks) c.take_at-got.result) keys
     ∙ ap (map (made (op_at chart op).kind (keys_at chart op))) got in
-    let mid : Held = record { waiting = c.take_at-got.new.lists; counts = c.args.held.now.counts; sinks = c.args.held.now.sinks } in
+    let mid : Held = record { waiting = c.take_at-got.new.lists; counts = c.args.held.now.counts; sinks = c.args.held.now.sinks; tally = c.args.held.now.tally } in
     record {
       mid = mid;
       taken = c.take_at-got.ensures.rest ∙ ap (λ i. set olds i []) c.input_of.ensures;
       counts = refl;
       sinks = refl;
+      found = still c.args.held.now.tally c.args.held.now.tally refl;
       puts = subst (λ (s : List (List Row)). Puts chart c.args.nodes (outputs chart op) (λ l. s) mid c.send.new.held) sent c.in_ok-send.ensures;
     }

@@ -35,3 +35,4 @@ returns c =
     (ap (set c.args.held.now.waiting.items c.args.link) (c.in_ok-held.ensures ∙ ap (λ ch. delivered ch c.degree-count.result c.args.sent) chosen ∙ ap (λ n. delivered (choice_at chart c.args.link) n c.args.sent) degree))
     (ap (set c.args.held.now.counts.items c.args.link) c.count_rows.ensures)
     refl
+    refl

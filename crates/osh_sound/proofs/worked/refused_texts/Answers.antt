@@ -37,8 +37,14 @@ returns-clause-flag_value c = w.flag_value
 pub returns-clause-unknown_option : goal.returns-clause-unknown_option
 returns-clause-unknown_option c = w.unknown_option
 
-pub returns-clause-not_built : goal.returns-clause-not_built
-returns-clause-not_built c = w.not_built
+pub returns-clause-no_expression : goal.returns-clause-no_expression
+returns-clause-no_expression c = w.no_expression
+
+pub returns-clause-no_equals : goal.returns-clause-no_equals
+returns-clause-no_equals c = w.no_equals
+
+pub returns-clause-equal_cases : goal.returns-clause-equal_cases
+returns-clause-equal_cases c = w.equal_cases
 
 pub returns-clause-mark : goal.returns-clause-mark
 returns-clause-mark c = w.mark

@@ -1,4 +1,3 @@
-use Rattle.std.specs.Prelude.{IfOk}
 use Rattle.osh_value.proofs.Names.{found_name}
 use Rattle.osh_value.proofs.name.name_of.Goals as goal
 
