@@ -1,7 +1,6 @@
 -- What imports have of their files: by operator, then by link.
-use Rattle.std.specs.Prelude.{◌≡◌, ◌<◌, ◌==◌, ◌&&◌, not, if◌then◌else◌, ℕ, zero, suc, Bool, true, false, List, [], length, get_or, All, Some}
+use Rattle.std.specs.Prelude.{◌≡◌, ◌<◌, ◌==◌, ◌&&◌, not, if◌then◌else◌, ℕ, zero, suc, Bool, false, List, [], length, get_or, All, Some}
 use Rattle.std.specs.List.{flat_map, range_with_len, AllByRecursion}
-use Rattle.ds_schema.specs.declared.schema.Field.{Field}
 use Rattle.ds_port.specs.FileMap.{FileMap, file_at}
 use Rattle.ds_text.specs.Forms.{FormFits}
 use Rattle.op_base.specs.Columns.{Row}
