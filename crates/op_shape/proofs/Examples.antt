@@ -62,9 +62,9 @@ known_key = refl
 abbrev two_sets : List SetSpec
 two_sets = set (codes "name") data_kind.Date ∷ (set (codes "age") (data_kind.Int 8) ∷ [])
 
-made : output_fields (kind.Transform two_sets true) (people ∷ []) 0
+fields_made : output_fields (kind.Transform two_sets true) (people ∷ []) 0
     ≡ field (codes "id") (data_kind.Int 32) ∷ (field (codes "name") data_kind.Date ∷ (field (codes "paid") data_kind.Date ∷ (field (codes "age") (data_kind.Int 8) ∷ [])))
-made = refl
+fields_made = refl
 
 set_in : operator_columns (kind.Transform two_sets true) (people ∷ []) ≡ 1 ∷ (3 ∷ [])
 set_in = refl
