@@ -2,8 +2,8 @@ ghost use Rattle.std.specs.Prelude.{◌≡◌, IfOk};
 ghost use Rattle.op_base.specs.Columns.{pairs_of, column_in};
 ghost use Rattle.flow_rules.specs.Derive.{carried, carried_place, kept_place};
 
-use ds_value::{Copied, Items, NoMemory};
 use ds_place::Place;
+use ds_value::{Copied, Items, NoMemory};
 use flow_graph::Spot;
 use std::alloc::Global;
 

@@ -5,9 +5,9 @@ ghost use Rattle.op_base.specs.Keyed.{get_keys};
 ghost use Rattle.flow_graph.specs.Charts.{sees_order, stored_form, kind_form, form_at};
 ghost use Rattle.flow_rules.specs.Outlines.{outline_form, kind_passes, passes_at};
 
+use ds_place::Place;
 use ds_schema::KeyList;
 use ds_value::{Copied, Items, NoMemory};
-use ds_place::Place;
 use flow_graph::{AggSpec, OpKind, Shaped, Stored};
 
 /// What the checker sees of an operator: which it is, and its keys.

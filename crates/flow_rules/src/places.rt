@@ -4,9 +4,9 @@ ghost use Rattle.op_base.specs.Columns.{pairs_of};
 ghost use Rattle.flow_rules.specs.Derive.{carried_place, placed_in, agrees_in, same_list, same_place, all_at_place, common_place, key_places, places};
 
 use crate::carry::{carried_place, pairs_of};
+use ds_place::Place;
 use ds_schema::KeyList;
 use ds_value::{Copied, NoMemory};
-use ds_place::Place;
 use flow_graph::{ColSet, Spot, State, columns_of, is_in, lies};
 use std::alloc::Global;
 

@@ -6,9 +6,9 @@ ghost use Rattle.flow_graph.specs.declared.state.Spot.TheVariants as spot;
 ghost use Rattle.flow_rules.specs.Derive.{settled, set_if, more, solo_sort, merged_sort, routed_state, or_filled, filled_agree, refined};
 
 use crate::sorts::no_keys;
+use ds_place::Place;
 use ds_schema::KeyList;
 use ds_value::{Copied, NoMemory};
-use ds_place::Place;
 use flow_graph::{ColSet, Route, Spot, State};
 use std::alloc::Global;
 

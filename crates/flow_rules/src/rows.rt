@@ -8,9 +8,9 @@ ghost use Rattle.flow_rules.specs.Outlines.{OutputsDiffer};
 use crate::carry::{carried, carried_place, kept_place, pairs_of};
 use crate::places::{agrees_in, common_place, key_places, placed_in, places};
 use crate::sorts::{carried_sort, first_keys, no_keys, resorted};
+use ds_place::Place;
 use ds_schema::KeyList;
 use ds_value::{Copied, Items, NoMemory};
-use ds_place::Place;
 use flow_graph::{ColSet, Spot, State, columns_of};
 use std::alloc::Global;
 

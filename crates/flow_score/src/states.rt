@@ -4,9 +4,9 @@ ghost use Rattle.std.specs.Prelude.{◌≡◌, ◌++◌, OnOk};
 ghost use Rattle.flow_score.specs.Texts.{place_text, spot_text, need_text, route_text};
 
 use crate::columns::{put, put_column, put_named_columns, put_named_keys};
+use ds_place::Place;
 use ds_schema::Field;
 use ds_value::{Bytes, NoMemory};
-use ds_place::Place;
 use flow_graph::{Route, Spot};
 use flow_rules::Need;
 

@@ -84,12 +84,13 @@ settled fields set rest e =
     record { typed = both.0; once = unheld (stand_twice (set_names set)) why.Double (none_head (sets_cause set) rest both.1).0 }
 
 sets_fit : (fields : List Field) (set : List SetSpec) (reject : Bool) → OptionsStand (kind.Transform set reject) → IsSettled fields set → ExprsFit fields (kind.Transform set reject) (operator_parts (kind.Transform set reject) (fields ∷ []))
-sets_fit fields set reject o e =
-    (o.0,
-     columns_length fields set,
-     length-map set _,
-     all_sets fields set o.0 o.1 e.typed e.once,
-     input_is fields set (set_columns fields set) o.0 (columns_length fields set) e.typed)
+sets_fit fields set reject o e = (
+  o.0,
+  columns_length fields set,
+  length-map set _,
+  all_sets fields set o.0 o.1 e.typed e.once,
+  input_is fields set (set_columns fields set) o.0 (columns_length fields set) e.typed,
+)
 
 pub exprs_fit : (k : OpKind) (fields : List Field) → IsKnown k → OptionsStand k → FewCases k → first_cause (option_causes k (fields ∷ []) ++ output_causes k (fields ∷ [])) ≡ None → ExprsFit fields k (operator_parts k (fields ∷ []))
 exprs_fit (kind.Import file schema delim fixed reject) fields h o few e = tt

@@ -49,8 +49,8 @@ pub put_length : (new : Field) (fields : List Field) → length (put_field new f
 put_length new fields = elim (cases_lt (column fields new.name) (length fields)) [
   | inl lt ↦ ap length (put_set new fields lt) ∙ (length-set fields (column fields new.name) new ∙ sym (ap (λ b. cond b (suc (length fields)) (length fields)) (ne_eqb (column fields new.name) (length fields) (λ e. absurd (omega (arith, e, lt))))))
   | inr ge ↦
-    let end : column fields new.name ≡ length fields = (let most = column_most fields new.name in omega (arith, most, ge)) in
-    ap length (put_behind new fields ge) ∙ (length-append fields (new ∷ []) ∙ ((let one : length fields + 1 ≡ suc (length fields) = omega arith in one) ∙ sym (ap (λ b. cond b (suc (length fields)) (length fields)) (eq-eqb (column fields new.name) (length fields) end))))
+      let end : column fields new.name ≡ length fields = (let most = column_most fields new.name in omega (arith, most, ge)) in
+      ap length (put_behind new fields ge) ∙ (length-append fields (new ∷ []) ∙ ((let one : length fields + 1 ≡ suc (length fields) = omega arith in one) ∙ sym (ap (λ b. cond b (suc (length fields)) (length fields)) (eq-eqb (column fields new.name) (length fields) end))))
 ]
 
 -- ---- names among fields that one is put to
@@ -138,10 +138,11 @@ targets_stand [] fields h = tt
 targets_stand (s ∷ set) fields h =
     let parts = or_parts (is_among (set_names set) s.field.name) (stand_twice (set_names set)) h in
     let most = column_most fields s.field.name in
-    let at : column (set_fields fields (s ∷ set)) s.field.name ≤ length fields = omega (arith, first_at s set fields, most) in
-    (at,
-     apart (set_fields fields (s ∷ set)) s.field.name (set_names set) (first_there s set fields) parts.0,
-     subst (λ n. AreTargets n (set_columns (put_field s.field fields) set)) (next_width s set fields) (targets_stand set (put_field s.field fields) parts.1))
+    let at : column (set_fields fields (s ∷ set)) s.field.name ≤ length fields = omega (arith, first_at s set fields, most) in (
+      at,
+      apart (set_fields fields (s ∷ set)) s.field.name (set_names set) (first_there s set fields) parts.0,
+      subst (λ n. AreTargets n (set_columns (put_field s.field fields) set)) (next_width s set fields) (targets_stand set (put_field s.field fields) parts.1),
+    )
 
 pub width_is : (set : List SetSpec) (fields : List Field) → width_after (length fields) (set_columns fields set) ≡ length (set_fields fields set)
 width_is [] fields = refl

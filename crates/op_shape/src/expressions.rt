@@ -112,11 +112,7 @@ fn cause_unless(suits: bool) -> Option<ShapeWhy>
 }
 
 /// What is wrong with a test.
-pub fn test_cause(
-    alloc: Global,
-    schema: &Schema,
-    text: &[u8],
-) -> Result<Option<ShapeWhy>, NoMemory>
+pub fn test_cause(alloc: Global, schema: &Schema, text: &[u8]) -> Result<Option<ShapeWhy>, NoMemory>
     ensures { IfOk result (λ cause. cause ≡ test_cause schema.now text.now) }
 {
     let typed = typed_text(alloc, schema, text)?;
@@ -176,11 +172,7 @@ pub fn one_expr(alloc: Global, schema: &Schema, text: &[u8]) -> Result<Items<Typ
 }
 
 /// The expressions of sets, each of which has a type.
-pub fn set_exprs(
-    alloc: Global,
-    schema: &Schema,
-    sets: &[SetSpec],
-) -> Result<Items<Typed>, NoMemory>
+pub fn set_exprs(alloc: Global, schema: &Schema, sets: &[SetSpec]) -> Result<Items<Typed>, NoMemory>
     requires { first_cause (set_causes schema.now sets.now) ≡ None }
     ensures { IfOk result (λ exprs. exprs ≡ map (λ (s : SetOf). expr_over schema.now s.expr) sets.now) }
 {

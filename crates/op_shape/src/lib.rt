@@ -17,6 +17,5 @@ pub use options::own_cause;
 pub use outputs::{line_schema, output_schema};
 pub use parts::operator_parts;
 
-
 #[cfg(test)]
 mod tests;

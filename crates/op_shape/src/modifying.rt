@@ -26,7 +26,9 @@ pub fn columns_cause(names: &[Name], fields: &[Field]) -> Option<ShapeWhy>
 fn is_among(names: &[Name], name: &Name) -> bool
     ensures { result ≡ is_among names.now name.now }
 {
-    names.iter().any(|other| other.as_slice() == name.as_slice())
+    names
+        .iter()
+        .any(|other| other.as_slice() == name.as_slice())
 }
 
 fn left_columns(alloc: Global, drop: &[Name], fields: &[Field]) -> Result<Items<u32>, NoMemory>

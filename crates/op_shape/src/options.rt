@@ -96,11 +96,7 @@ fn modify_cause(
     Ok(fields_cause(made.as_slice()))
 }
 
-fn fed_cause(
-    alloc: Global,
-    kind: &OpKind,
-    first: &Schema,
-) -> Result<Option<ShapeWhy>, NoMemory>
+fn fed_cause(alloc: Global, kind: &OpKind, first: &Schema) -> Result<Option<ShapeWhy>, NoMemory>
     requires { IsKnown kind.now }
     ensures { IfOk result (λ cause. cause ≡ first_cause (option_causes kind.now (first.now ∷ []) ++ output_causes kind.now (first.now ∷ []))) }
 {

@@ -96,12 +96,7 @@ fn modify_schema(
     Ok(Schema::from_vec(fields))
 }
 
-fn fed_output(
-    alloc: Global,
-    kind: &OpKind,
-    first: &Schema,
-    out: u32,
-) -> Result<Schema, NoMemory>
+fn fed_output(alloc: Global, kind: &OpKind, first: &Schema, out: u32) -> Result<Schema, NoMemory>
     requires sound { first_cause (option_causes kind.now (first.now ∷ []) ++ output_causes kind.now (first.now ∷ [])) ≡ None }
     requires stand { OptionsStand kind.now }
     ensures { IfOk result (λ schema. schema ≡ output_fields kind.now (first.now ∷ []) out) }

@@ -35,11 +35,7 @@ fn copied_fields(alloc: Global, fields: &[Field]) -> Result<Vec<Field>, NoMemory
 }
 
 /// The fields, each set put in its turn.
-pub fn set_fields(
-    alloc: Global,
-    fields: &[Field],
-    sets: &[SetSpec],
-) -> Result<Vec<Field>, NoMemory>
+pub fn set_fields(alloc: Global, fields: &[Field], sets: &[SetSpec]) -> Result<Vec<Field>, NoMemory>
     ensures { IfOk result (λ made. made.items ≡ set_fields fields.now sets.now) }
 {
     let mut made = copied_fields(alloc, fields)?;
@@ -76,7 +72,8 @@ fn columns_in(alloc: Global, made: &[Field], sets: &[SetSpec]) -> Result<Items<u
 fn is_set(sets: &[SetSpec], name: &Name) -> bool
     ensures { result ≡ list_any (λ (s : SetOf). bytes_eq s.field.name name.now) sets.now }
 {
-    sets.iter().any(|set| set.field.name.as_slice() == name.as_slice())
+    sets.iter()
+        .any(|set| set.field.name.as_slice() == name.as_slice())
 }
 
 /// Whether two sets have one name.

@@ -211,7 +211,10 @@ const CAUSES: [(Written<'static>, Option<ShapeWhy>); 27] = [
     (Written::Switch("id * 2"), None),
     (Written::Switch("paid"), Some(ShapeWhy::Expression)),
     (Written::Switch("id == 2"), Some(ShapeWhy::Expression)),
-    (Written::Transform(("record ( id: int64; )", "id + 1"), None), None),
+    (
+        Written::Transform(("record ( id: int64; )", "id + 1"), None),
+        None,
+    ),
     (
         Written::Transform(("record ( id: int64; )", "paid"), None),
         Some(ShapeWhy::Expression),
@@ -334,12 +337,7 @@ fn what_options_stand_for(rt: HostRuntime) -> Result<(), Fail> {
 }
 
 /// The schema of an output, where nothing is wrong with the operator.
-fn output(
-    alloc: Global,
-    written: Written<'_>,
-    people: &Schema,
-    out: u32,
-) -> Result<Schema, Fail> {
+fn output(alloc: Global, written: Written<'_>, people: &Schema, out: u32) -> Result<Schema, Fail> {
     let kind = kind(alloc, written)?;
     match own_cause(alloc, &kind, Some(people))? {
         Some(_) => Err("a cause".into()),
