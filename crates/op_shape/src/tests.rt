@@ -12,21 +12,34 @@ use flow_graph::{OpKind, OpParts, SetSpec};
 use std::alloc::Global;
 use std::test::Fail;
 
-const PEOPLE: &[u8] = b"record ( id: int32; name: string[max=10]; paid: decimal[8,2]; )";
+const PEOPLE: &str = "record ( id: int32; name: string[max=10]; paid: decimal[8,2]; )";
 
-/// An operator as a case of a table writes it; a field stands in a schema of its own.
+const ID: &str = "record ( id: int64; )";
+
+const SUM: &str = "record ( sum: int64; )";
+
+const TWICE: &str = "record ( twice: int64; )";
+
+const NAME: &str = "record ( name: nullable string[4]; )";
+
 #[derive(Clone, Copy)]
-enum Written<'a> {
+enum Op {
     Import,
-    Export(bool),
+    Export,
+    Narrow,
     Copy,
-    Filter(&'a str),
-    Transform((&'a str, &'a str), Option<(&'a str, &'a str)>),
-    Keep(&'a str, Option<(&'a str, &'a str)>),
-    Drop(&'a str),
-    Switch(&'a str),
-    Tsort(&'a str),
+    Filter,
+    Transform,
+    Keep,
+    Drop,
+    Switch,
+    Tsort,
 }
+
+/// An operator with its options: what is tested, switched on, kept, dropped or sorted by; two
+/// sets, of which the second may be missing, each as a schema of one field and an expression; or
+/// a renamed column, the new name as a schema of one field.
+type Written<'a> = (Op, [&'a str; 4]);
 
 fn bytes(alloc: Global, text: &str) -> Result<Bytes, NoMemory> {
     let mut bytes = Bytes::new(alloc);
@@ -61,27 +74,23 @@ fn field(alloc: Global, text: &str) -> Result<Field, Fail>
     Ok(first_field(&schema)?)
 }
 
-fn set(alloc: Global, written: (&str, &str)) -> Result<SetSpec, Fail>
+fn set(alloc: Global, text: &str, expr: &str) -> Result<SetSpec, Fail>
     ensures { IfOk result (λ s. IsField s.field) }
 {
-    let (text, expr) = written;
     Ok(SetSpec {
         field: field(alloc, text)?,
         expr: bytes(alloc, expr)?,
     })
 }
 
-fn transform(
-    alloc: Global,
-    first: (&str, &str),
-    second: Option<(&str, &str)>,
-) -> Result<OpKind, Fail>
+fn transform(alloc: Global, options: [&str; 4]) -> Result<OpKind, Fail>
     ensures { IfOk result (λ k. IsKnown k × (KeysDistinct k × OptionsStand k)) }
 {
+    let [first, expr, second, other] = options;
     let mut sets = Items::new(alloc);
-    sets.push(set(alloc, first)?)?;
-    if let Some(second) = second {
-        sets.push(set(alloc, second)?)?;
+    sets.push(set(alloc, first, expr)?)?;
+    if !second.is_empty() {
+        sets.push(set(alloc, second, other)?)?;
     }
     Ok(OpKind::Transform {
         set: sets,
@@ -89,11 +98,12 @@ fn transform(
     })
 }
 
-fn keep(alloc: Global, kept: &str, rename: Option<(&str, &str)>) -> Result<OpKind, Fail>
+fn keep(alloc: Global, options: [&str; 4]) -> Result<OpKind, Fail>
     ensures { IfOk result (λ k. IsKnown k × (KeysDistinct k × OptionsStand k)) }
 {
+    let [kept, new, old, _] = options;
     let mut pairs = Items::new(alloc);
-    if let Some((new, old)) = rename {
+    if !new.is_empty() {
         let field = field(alloc, new)?;
         pairs.push((field.name, name(alloc, old)?))?;
     }
@@ -149,7 +159,7 @@ fn import(alloc: Global) -> Result<OpKind, Fail>
 {
     Ok(OpKind::Import {
         file: name(alloc, "in.txt")?,
-        schema: read_schema(alloc, PEOPLE)?,
+        schema: read_schema(alloc, PEOPLE.as_bytes())?,
         delim: b',',
         fixed: None,
         reject: true,
@@ -186,95 +196,93 @@ fn tsort(alloc: Global, column: &str) -> Result<OpKind, Fail>
 fn kind(alloc: Global, written: Written<'_>) -> Result<OpKind, Fail>
     ensures { IfOk result (λ k. IsKnown k × (KeysDistinct k × OptionsStand k)) }
 {
-    match written {
-        Written::Import => import(alloc),
-        Written::Export(fixed) => export(alloc, fixed),
-        Written::Copy => Ok(OpKind::Copy),
-        Written::Filter(test) => filter(alloc, test),
-        Written::Transform(first, second) => transform(alloc, first, second),
-        Written::Keep(kept, rename) => keep(alloc, kept, rename),
-        Written::Drop(drop) => dropped(alloc, drop),
-        Written::Switch(on) => one_case(alloc, on),
-        Written::Tsort(column) => tsort(alloc, column),
+    let (op, options) = written;
+    match op {
+        Op::Import => import(alloc),
+        Op::Export => export(alloc, false),
+        Op::Narrow => export(alloc, true),
+        Op::Copy => Ok(OpKind::Copy),
+        Op::Filter => filter(alloc, options[0]),
+        Op::Transform => transform(alloc, options),
+        Op::Keep => keep(alloc, options),
+        Op::Drop => dropped(alloc, options[0]),
+        Op::Switch => one_case(alloc, options[0]),
+        Op::Tsort => tsort(alloc, options[0]),
     }
 }
 
-const CAUSES: [(Written<'static>, Option<ShapeWhy>); 27] = [
-    (Written::Import, None),
-    (Written::Export(false), None),
-    (Written::Export(true), Some(ShapeWhy::Schemas)),
-    (Written::Copy, None),
-    (Written::Filter("id > 2 && name == 'x'"), None),
-    (Written::Filter("id + 2"), Some(ShapeWhy::Expression)),
-    (Written::Filter("zip > 2"), Some(ShapeWhy::Expression)),
-    (Written::Filter("id >"), Some(ShapeWhy::Expression)),
-    (Written::Switch("id * 2"), None),
-    (Written::Switch("paid"), Some(ShapeWhy::Expression)),
-    (Written::Switch("id == 2"), Some(ShapeWhy::Expression)),
-    (
-        Written::Transform(("record ( id: int64; )", "id + 1"), None),
-        None,
-    ),
-    (
-        Written::Transform(("record ( id: int64; )", "paid"), None),
-        Some(ShapeWhy::Expression),
-    ),
-    (
-        Written::Transform(("record ( ok: int8; )", "id == 1"), None),
-        Some(ShapeWhy::Expression),
-    ),
-    // each set sees the input alone
-    (
-        Written::Transform(
-            ("record ( sum: int64; )", "id"),
-            Some(("record ( twice: int64; )", "sum * 2")),
-        ),
-        Some(ShapeWhy::Expression),
-    ),
-    (
-        Written::Transform(
-            ("record ( sum: int64; )", "id"),
-            Some(("record ( sum: int64; )", "id")),
-        ),
-        Some(ShapeWhy::Double),
-    ),
-    (
-        Written::Transform(
-            ("record ( sum: int64; )", "id"),
-            Some(("record ( sum: int64; )", "name")),
-        ),
-        Some(ShapeWhy::Expression),
-    ),
-    (Written::Keep("paid,id", None), None),
-    (Written::Keep("paid,zip", None), Some(ShapeWhy::Field)),
-    (
-        Written::Keep("paid,id", Some(("record ( sum: date; )", "paid"))),
-        None,
-    ),
-    (
-        Written::Keep("paid,id", Some(("record ( sum: date; )", "name"))),
-        Some(ShapeWhy::Field),
-    ),
-    (
-        Written::Keep("paid,id", Some(("record ( id: date; )", "paid"))),
-        Some(ShapeWhy::Double),
-    ),
-    (Written::Drop("name"), None),
-    (Written::Drop("zip"), Some(ShapeWhy::Field)),
-    (Written::Drop("name,id,paid"), Some(ShapeWhy::Wide)),
-    (Written::Tsort("paid"), None),
-    (Written::Tsort("zip"), Some(ShapeWhy::Field)),
-];
+const NONE: [&str; 4] = ["", "", "", ""];
+
+fn cause(
+    alloc: Global,
+    op: Op,
+    options: [&str; 4],
+    people: &Schema,
+) -> Result<Option<ShapeWhy>, Fail> {
+    let kind = kind(alloc, (op, options))?;
+    Ok(own_cause(alloc, &kind, Some(people))?)
+}
 
 #[test]
-fn causes(rt: HostRuntime) -> Result<(), Fail> {
+fn causes_at_expressions(rt: HostRuntime) -> Result<(), Fail> {
     let alloc = rt.alloc();
-    let people = read_schema(alloc, PEOPLE)?;
-    for (written, cause) in CAUSES {
-        let kind = kind(alloc, written)?;
-        let found = own_cause(alloc, &kind, Some(&people))?;
-        assert_eq!(rt; found, cause);
-    }
+    let people = read_schema(alloc, PEOPLE.as_bytes())?;
+    let good = cause(
+        alloc,
+        Op::Filter,
+        ["id > 2 && name == 'x'", "", "", ""],
+        &people,
+    )?;
+    assert_eq!(rt; good, None);
+    let number = cause(alloc, Op::Filter, ["id + 2", "", "", ""], &people)?;
+    assert_eq!(rt; number, Some(ShapeWhy::Expression));
+    let unread = cause(alloc, Op::Filter, ["id >", "", "", ""], &people)?;
+    assert_eq!(rt; unread, Some(ShapeWhy::Expression));
+    let fraction = cause(alloc, Op::Switch, ["paid", "", "", ""], &people)?;
+    assert_eq!(rt; fraction, Some(ShapeWhy::Expression));
+    let whole = cause(alloc, Op::Switch, ["id * 2", "", "", ""], &people)?;
+    assert_eq!(rt; whole, None);
+    Ok(())
+}
+
+#[test]
+fn causes_at_sets(rt: HostRuntime) -> Result<(), Fail> {
+    let alloc = rt.alloc();
+    let people = read_schema(alloc, PEOPLE.as_bytes())?;
+    let good = cause(alloc, Op::Transform, [ID, "id + 1", "", ""], &people)?;
+    assert_eq!(rt; good, None);
+    let scale = cause(alloc, Op::Transform, [ID, "paid", "", ""], &people)?;
+    assert_eq!(rt; scale, Some(ShapeWhy::Expression));
+    // each set sees the input alone
+    let later = cause(alloc, Op::Transform, [SUM, "id", TWICE, "sum * 2"], &people)?;
+    assert_eq!(rt; later, Some(ShapeWhy::Expression));
+    let twice = cause(alloc, Op::Transform, [SUM, "id", SUM, "id"], &people)?;
+    assert_eq!(rt; twice, Some(ShapeWhy::Double));
+    Ok(())
+}
+
+#[test]
+fn causes_at_columns(rt: HostRuntime) -> Result<(), Fail> {
+    let alloc = rt.alloc();
+    let people = read_schema(alloc, PEOPLE.as_bytes())?;
+    let unknown = cause(alloc, Op::Keep, ["paid,zip", "", "", ""], &people)?;
+    assert_eq!(rt; unknown, Some(ShapeWhy::Field));
+    let left = cause(alloc, Op::Keep, ["paid,id", SUM, "name", ""], &people)?;
+    assert_eq!(rt; left, Some(ShapeWhy::Field));
+    let double = cause(alloc, Op::Keep, ["paid,id", ID, "paid", ""], &people)?;
+    assert_eq!(rt; double, Some(ShapeWhy::Double));
+    let none_left = cause(alloc, Op::Drop, ["name,id,paid", "", "", ""], &people)?;
+    assert_eq!(rt; none_left, Some(ShapeWhy::Wide));
+    let key = cause(alloc, Op::Tsort, ["zip", "", "", ""], &people)?;
+    assert_eq!(rt; key, Some(ShapeWhy::Field));
+    let widths = cause(alloc, Op::Narrow, NONE, &people)?;
+    assert_eq!(rt; widths, Some(ShapeWhy::Schemas));
+    Ok(())
+}
+
+#[test]
+fn cause_without_input(rt: HostRuntime) -> Result<(), Fail> {
+    let alloc = rt.alloc();
     let import = import(alloc)?;
     let found = own_cause(alloc, &import, None)?;
     assert_eq!(rt; found, None);
@@ -282,129 +290,71 @@ fn causes(rt: HostRuntime) -> Result<(), Fail> {
 }
 
 /// What stands for the names and expressions of an operator, where nothing is wrong with it.
-fn parts(alloc: Global, written: Written<'_>, people: &Schema) -> Result<OpParts, Fail> {
-    let kind = kind(alloc, written)?;
+fn parts(alloc: Global, op: Op, options: [&str; 4], people: &Schema) -> Result<OpParts, Fail> {
+    let kind = kind(alloc, (op, options))?;
     match own_cause(alloc, &kind, Some(people))? {
         Some(_) => Err("a cause".into()),
         None => Ok(operator_parts(alloc, &kind, Some(people))?),
     }
 }
 
-const PARTS: [(Written<'static>, usize, &[u32], usize); 9] = [
-    (Written::Import, 0, &[], 0),
-    (Written::Copy, 0, &[], 0),
-    (Written::Filter("id > 2"), 0, &[], 1),
-    (Written::Switch("id"), 0, &[], 1),
-    (
-        Written::Transform(
-            ("record ( name: string[4]; )", "name"),
-            Some(("record ( sum: int64; )", "id + 1")),
-        ),
-        0,
-        &[1, 3],
-        2,
-    ),
-    (Written::Keep("paid,id", None), 0, &[2, 0], 0),
-    (
-        Written::Keep("paid", Some(("record ( sum: date; )", "paid"))),
-        0,
-        &[2],
-        0,
-    ),
-    (Written::Drop("name"), 0, &[0, 2], 0),
-    (Written::Tsort("paid"), 1, &[], 0),
-];
-
 #[test]
 fn what_options_stand_for(rt: HostRuntime) -> Result<(), Fail> {
     let alloc = rt.alloc();
-    let people = read_schema(alloc, PEOPLE)?;
-    for (written, keys, cols, exprs) in PARTS {
-        let found = parts(alloc, written, &people)?;
-        assert_eq!(rt; found.keys.as_slice().len(), keys);
-        assert!(rt; found.cols.as_slice() == cols);
-        assert_eq!(rt; found.exprs.as_slice().len(), exprs);
-    }
-    let sorted = parts(alloc, Written::Tsort("paid"), &people)?;
-    for list in sorted.keys.as_slice() {
-        assert!(rt; matches!(list.as_slice(), [key] if key.col == 2 && key.desc));
-    }
-    let tested = parts(alloc, Written::Filter("id > 2"), &people)?;
-    for expr in tested.exprs.as_slice() {
-        assert_eq!(rt; shape_of(expr), (ds_expr::Shape::Truth, 0));
-    }
+    let people = read_schema(alloc, PEOPLE.as_bytes())?;
+    let set = parts(alloc, Op::Transform, [NAME, "name", SUM, "id + 1"], &people)?;
+    assert!(rt; set.cols.as_slice() == [1, 3].as_slice());
+    assert_eq!(rt; set.exprs.as_slice().len(), 2);
+    let kept = parts(alloc, Op::Keep, ["paid,id", "", "", ""], &people)?;
+    assert!(rt; kept.cols.as_slice() == [2, 0].as_slice());
+    let dropped = parts(alloc, Op::Drop, ["name", "", "", ""], &people)?;
+    assert!(rt; dropped.cols.as_slice() == [0, 2].as_slice());
+    let sorted = parts(alloc, Op::Tsort, ["paid", "", "", ""], &people)?;
+    assert_eq!(rt; sorted.keys.as_slice().len(), 1);
+    let tested = parts(alloc, Op::Filter, ["id > 2", "", "", ""], &people)?;
+    assert_eq!(rt; tested.exprs.as_slice().len(), 1);
     Ok(())
 }
 
-/// The schema of an output, where nothing is wrong with the operator.
-fn output(alloc: Global, written: Written<'_>, people: &Schema, out: u32) -> Result<Schema, Fail> {
-    let kind = kind(alloc, written)?;
+/// The printed schema of an output, where nothing is wrong with the operator.
+fn output(
+    alloc: Global,
+    op: Op,
+    options: [&str; 4],
+    people: &Schema,
+    out: u32,
+) -> Result<Bytes, Fail> {
+    let kind = kind(alloc, (op, options))?;
     match own_cause(alloc, &kind, Some(people))? {
         Some(_) => Err("a cause".into()),
-        None => Ok(output_schema(alloc, &kind, Some(people), out)?),
+        None => {
+            let schema = output_schema(alloc, &kind, Some(people), out)?;
+            Ok(print_schema(alloc, &schema)?)
+        }
     }
 }
-
-const OUTPUTS: [(Written<'static>, u32, &str); 10] = [
-    (
-        Written::Import,
-        0,
-        "record ( id: int32; name: string[max=10]; paid: decimal[8,2]; )",
-    ),
-    (Written::Import, 1, "record ( line: string[max=65536]; )"),
-    (
-        Written::Filter("id > 2"),
-        0,
-        "record ( id: int32; name: string[max=10]; paid: decimal[8,2]; )",
-    ),
-    (
-        Written::Switch("id"),
-        1,
-        "record ( id: int32; name: string[max=10]; paid: decimal[8,2]; )",
-    ),
-    (
-        Written::Transform(
-            ("record ( name: nullable string[4]; )", "name"),
-            Some(("record ( sum: int64; )", "id + 1")),
-        ),
-        0,
-        "record ( id: int32; name: nullable string[4]; paid: decimal[8,2]; sum: int64; )",
-    ),
-    (
-        Written::Transform(("record ( name: string[4]; )", "name"), None),
-        1,
-        "record ( id: int32; name: string[max=10]; paid: decimal[8,2]; )",
-    ),
-    (
-        Written::Keep("paid,id", Some(("record ( sum: date; )", "paid"))),
-        0,
-        "record ( sum: decimal[8,2]; id: int32; )",
-    ),
-    (
-        Written::Drop("name"),
-        0,
-        "record ( id: int32; paid: decimal[8,2]; )",
-    ),
-    (
-        Written::Tsort("id"),
-        0,
-        "record ( id: int32; name: string[max=10]; paid: decimal[8,2]; )",
-    ),
-    (
-        Written::Copy,
-        3,
-        "record ( id: int32; name: string[max=10]; paid: decimal[8,2]; )",
-    ),
-];
 
 #[test]
 fn schemas_of_outputs(rt: HostRuntime) -> Result<(), Fail> {
     let alloc = rt.alloc();
-    let people = read_schema(alloc, PEOPLE)?;
-    for (written, out, wanted) in OUTPUTS {
-        let found = print_schema(alloc, &output(alloc, written, &people, out)?)?;
-        assert!(rt; found.as_slice() == wanted.as_bytes(), "{wanted}");
-    }
+    let people = read_schema(alloc, PEOPLE.as_bytes())?;
+    let set = output(
+        alloc,
+        Op::Transform,
+        [NAME, "name", SUM, "id + 1"],
+        &people,
+        0,
+    )?;
+    assert!(rt;
+        set.as_slice()
+            == b"record ( id: int32; name: nullable string[4]; paid: decimal[8,2]; sum: int64; )".as_slice()
+    );
+    let rejected = output(alloc, Op::Transform, [NAME, "name", "", ""], &people, 1)?;
+    assert!(rt; rejected.as_slice() == PEOPLE.as_bytes());
+    let kept = output(alloc, Op::Keep, ["paid,id", SUM, "paid", ""], &people, 0)?;
+    assert!(rt; kept.as_slice() == b"record ( sum: decimal[8,2]; id: int32; )".as_slice());
+    let filtered = output(alloc, Op::Filter, ["id > 2", "", "", ""], &people, 0)?;
+    assert!(rt; filtered.as_slice() == PEOPLE.as_bytes());
     let lines = print_schema(alloc, &line_schema(alloc)?)?;
     assert!(rt; lines.as_slice() == b"record ( line: string[max=65536]; )".as_slice());
     Ok(())
@@ -422,7 +372,7 @@ fn keyed(alloc: Global, people: &Schema, column: &str) -> Result<Option<KeyList>
 #[test]
 fn columns_of_names(rt: HostRuntime) -> Result<(), Fail> {
     let alloc = rt.alloc();
-    let people = read_schema(alloc, PEOPLE)?;
+    let people = read_schema(alloc, PEOPLE.as_bytes())?;
     let names = names(alloc, "paid,zip,id")?;
     let found = columns(alloc, people.as_slice(), names.as_slice())?;
     assert!(rt; found.as_slice() == [2, 3, 0].as_slice());
