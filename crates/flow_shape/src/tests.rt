@@ -361,54 +361,80 @@ fn each_cause(rt: HostRuntime) -> Result<(), Fail> {
     Ok(())
 }
 
+const WRONG: Option<(ShapeWhy, u32)> = Some((ShapeWhy::Expression, 1));
+
+const UNKNOWN: Option<(ShapeWhy, u32)> = Some((ShapeWhy::Field, 1));
+
+const DOUBLE: Option<(ShapeWhy, u32)> = Some((ShapeWhy::Double, 1));
+
+const WIDTHS: Option<(ShapeWhy, u32)> = Some((ShapeWhy::Schemas, 2));
+
+const NEXT: (&[u8], &[u8]) = (b"record ( next: int32; )", b"id + 1");
+
+const NAMED: (&[u8], &[u8]) = (b"record ( name: date; )", b"id");
+
+const EXPRESSIONS: [(Middle<'static>, Option<(ShapeWhy, u32)>); 14] = [
+    (Middle::Filter(b"id > 3 && name != \"\""), None),
+    (Middle::Filter(b"zip > 3"), WRONG),
+    (Middle::Filter(b"id + 3"), WRONG),
+    (Middle::Switch(b"id % 5"), None),
+    (Middle::Switch(b"id * 0.5"), WRONG),
+    (Middle::Switch(b"name"), WRONG),
+    (Middle::Transform(NEXT, None), None),
+    (
+        Middle::Transform(
+            NEXT,
+            Some((b"record ( id: date; )", b"date(\"2024-01-31\")")),
+        ),
+        None,
+    ),
+    (
+        Middle::Transform((b"record ( next: int8; )", b"name"), None),
+        WRONG,
+    ),
+    (
+        Middle::Transform((b"record ( next: int8; )", b"id > 1"), None),
+        WRONG,
+    ),
+    (
+        Middle::Transform((b"record ( next: int8; )", b"id * 0.5"), None),
+        WRONG,
+    ),
+    // each set sees the fields of the input
+    (
+        Middle::Transform(NEXT, Some((b"record ( more: int32; )", b"next"))),
+        WRONG,
+    ),
+    (
+        Middle::Transform(NEXT, Some((b"record ( next: int8; )", b"id"))),
+        DOUBLE,
+    ),
+    // a wrong set comes before a doubled name
+    (
+        Middle::Transform(NEXT, Some((b"record ( next: int8; )", b"zip"))),
+        WRONG,
+    ),
+];
+
+const MODIFIES: [(Middle<'static>, Option<(ShapeWhy, u32)>); 9] = [
+    (Middle::Modify(Some(b"id"), None, None), None),
+    (Middle::Modify(None, Some(b"id"), None), None),
+    (Middle::Modify(None, None, None), WIDTHS),
+    (Middle::Modify(Some(b"zip"), None, None), UNKNOWN),
+    (Middle::Modify(None, Some(b"zip"), None), UNKNOWN),
+    (Middle::Modify(Some(b"id"), None, Some(NAMED)), None),
+    (
+        Middle::Modify(Some(b"id"), None, Some((b"record ( id: date; )", b"name"))),
+        UNKNOWN,
+    ),
+    (Middle::Modify(None, None, Some(NAMED)), DOUBLE),
+    (Middle::Copy, WIDTHS),
+];
+
 #[test]
 fn expressions(rt: HostRuntime) -> Result<(), Fail> {
     let alloc = rt.alloc();
-    let wrong = Some((ShapeWhy::Expression, 1));
-    let next: (&[u8], &[u8]) = (b"record ( next: int32; )", b"id + 1");
-    let rows: [(Middle<'_>, Option<(ShapeWhy, u32)>); 14] = [
-        (Middle::Filter(b"id > 3 && name != \"\""), None),
-        (Middle::Filter(b"zip > 3"), wrong),
-        (Middle::Filter(b"id + 3"), wrong),
-        (Middle::Switch(b"id % 5"), None),
-        (Middle::Switch(b"id * 0.5"), wrong),
-        (Middle::Switch(b"name"), wrong),
-        (Middle::Transform(next, None), None),
-        (
-            Middle::Transform(
-                next,
-                Some((b"record ( id: date; )", b"date(\"2024-01-31\")")),
-            ),
-            None,
-        ),
-        (
-            Middle::Transform((b"record ( next: int8; )", b"name"), None),
-            wrong,
-        ),
-        (
-            Middle::Transform((b"record ( next: int8; )", b"id > 1"), None),
-            wrong,
-        ),
-        (
-            Middle::Transform((b"record ( next: int8; )", b"id * 0.5"), None),
-            wrong,
-        ),
-        // each set sees the fields of the input
-        (
-            Middle::Transform(next, Some((b"record ( more: int32; )", b"next"))),
-            wrong,
-        ),
-        (
-            Middle::Transform(next, Some((b"record ( next: int8; )", b"id"))),
-            Some((ShapeWhy::Double, 1)),
-        ),
-        // a wrong set comes before a doubled name
-        (
-            Middle::Transform(next, Some((b"record ( next: int8; )", b"zip"))),
-            wrong,
-        ),
-    ];
-    for (middle, wanted) in &rows {
+    for (middle, wanted) in &EXPRESSIONS {
         assert_eq!(rt; answer(alloc, &by_rows(*middle))?, *wanted);
     }
     Ok(())
@@ -417,27 +443,7 @@ fn expressions(rt: HostRuntime) -> Result<(), Fail> {
 #[test]
 fn kept_and_renamed(rt: HostRuntime) -> Result<(), Fail> {
     let alloc = rt.alloc();
-    let unknown = Some((ShapeWhy::Field, 1));
-    let named: (&[u8], &[u8]) = (b"record ( name: date; )", b"id");
-    let swapped: (&[u8], &[u8]) = (b"record ( id: date; )", b"name");
-    let rows: [(Middle<'_>, Option<(ShapeWhy, u32)>); 9] = [
-        (Middle::Modify(Some(b"id"), None, None), None),
-        (Middle::Modify(None, Some(b"id"), None), None),
-        (
-            Middle::Modify(None, None, None),
-            Some((ShapeWhy::Schemas, 2)),
-        ),
-        (Middle::Modify(Some(b"zip"), None, None), unknown),
-        (Middle::Modify(None, Some(b"zip"), None), unknown),
-        (Middle::Modify(Some(b"id"), None, Some(named)), None),
-        (Middle::Modify(Some(b"id"), None, Some(swapped)), unknown),
-        (
-            Middle::Modify(None, None, Some(named)),
-            Some((ShapeWhy::Double, 1)),
-        ),
-        (Middle::Copy, Some((ShapeWhy::Schemas, 2))),
-    ];
-    for (middle, wanted) in &rows {
+    for (middle, wanted) in &MODIFIES {
         assert_eq!(rt; answer(alloc, &one_column(*middle))?, *wanted);
     }
     let nothing = Row {
