@@ -291,158 +291,148 @@ fn answer(alloc: Global, row: &Row<'_>) -> Result<Option<(ShapeWhy, u32)>, Fail>
     Ok(first_fault(alloc, flow)?)
 }
 
-fn plain<'a>(column: Option<&'a [u8]>, mark: Mark) -> Row<'a> {
-    Row {
-        schema: PEOPLE,
-        one_width: false,
-        reject: false,
-        middle: Middle::Copy,
-        mark,
-        column,
-        sink: b"out.txt",
-        one_written: false,
-    }
+/// The first fault of an import of people, an operator that isn't sequential, and an export.
+fn fault_of(alloc: Global, middle: Middle<'_>) -> Result<Option<(ShapeWhy, u32)>, Fail> {
+    let row = Row {
+        middle,
+        mark: Mark::Par,
+        ..PLAIN
+    };
+    answer(alloc, &row)
 }
 
-fn by_rows<'a>(middle: Middle<'a>) -> Row<'a> {
-    Row {
+/// The same, where the export has one width.
+fn fault_of_one(alloc: Global, middle: Middle<'_>) -> Result<Option<(ShapeWhy, u32)>, Fail> {
+    let row = Row {
         middle,
-        ..plain(None, Mark::Par)
-    }
-}
-
-/// As many columns reach the export as it has widths.
-fn one_column<'a>(middle: Middle<'a>) -> Row<'a> {
-    Row {
-        middle,
+        mark: Mark::Par,
         one_written: true,
-        ..plain(None, Mark::Par)
-    }
+        ..PLAIN
+    };
+    answer(alloc, &row)
 }
+
+fn round_fault(alloc: Global) -> Result<Option<(ShapeWhy, u32)>, NoMemory> {
+    first_fault(alloc, round(alloc)?)
+}
+
+const PLAIN: Row<'static> = Row {
+    schema: PEOPLE,
+    one_width: false,
+    reject: false,
+    middle: Middle::Copy,
+    mark: Mark::Seq,
+    column: None,
+    sink: b"out.txt",
+    one_written: false,
+};
+
+const NEXT: (&[u8], &[u8]) = (b"record ( next: int32; )", b"id + 1");
+
+const NAMED: (&[u8], &[u8]) = (b"record ( name: date; )", b"id");
 
 #[test]
-fn each_cause(rt: HostRuntime) -> Result<(), Fail> {
+fn ports_methods_and_files(rt: HostRuntime) -> Result<(), Fail> {
     let alloc = rt.alloc();
-    let good = plain(None, Mark::Seq);
-    let wide = Row {
-        schema: WIDE,
-        ..plain(None, Mark::Seq)
-    };
-    let fixed = Row {
-        one_width: true,
-        ..plain(None, Mark::Seq)
-    };
+    assert_eq!(rt; answer(alloc, &PLAIN)?, None);
     let rejecting = Row {
         reject: true,
-        ..plain(None, Mark::Seq)
+        ..PLAIN
     };
+    assert_eq!(rt; answer(alloc, &rejecting)?, Some((ShapeWhy::Ports, 0)));
+    assert_eq!(rt; round_fault(alloc)?, Some((ShapeWhy::Cycle, 0)));
+    let sequential = Row {
+        column: Some(b"id"),
+        ..PLAIN
+    };
+    assert_eq!(rt; answer(alloc, &sequential)?, Some((ShapeWhy::Method, 1)));
     let clashing = Row {
         sink: b"in.txt.part",
-        ..plain(None, Mark::Seq)
+        ..PLAIN
     };
-    let sequential = plain(Some(b"id"), Mark::Seq);
-    let unknown = plain(Some(b"zip"), Mark::Par);
-    let text = plain(Some(b"name"), Mark::Par);
-    let rows = [
-        (good, None),
-        (rejecting, Some((ShapeWhy::Ports, 0))),
-        (sequential, Some((ShapeWhy::Method, 1))),
-        (unknown, Some((ShapeWhy::Field, 1))),
-        (text, Some((ShapeWhy::Kind, 1))),
-        (fixed, Some((ShapeWhy::Schemas, 0))),
-        (wide, Some((ShapeWhy::Wide, 0))),
-        (clashing, Some((ShapeWhy::Files, 2))),
-    ];
-    for (row, wanted) in &rows {
-        assert_eq!(rt; answer(alloc, row)?, *wanted);
-    }
-    let cycle = first_fault(alloc, round(alloc)?)?;
-    assert_eq!(rt; cycle, Some((ShapeWhy::Cycle, 0)));
+    assert_eq!(rt; answer(alloc, &clashing)?, Some((ShapeWhy::Files, 2)));
     Ok(())
 }
 
 #[test]
-fn expressions(rt: HostRuntime) -> Result<(), Fail> {
+fn columns_and_widths(rt: HostRuntime) -> Result<(), Fail> {
+    let alloc = rt.alloc();
+    let unknown = Row {
+        column: Some(b"zip"),
+        mark: Mark::Par,
+        ..PLAIN
+    };
+    assert_eq!(rt; answer(alloc, &unknown)?, Some((ShapeWhy::Field, 1)));
+    let text = Row {
+        column: Some(b"name"),
+        mark: Mark::Par,
+        ..PLAIN
+    };
+    assert_eq!(rt; answer(alloc, &text)?, Some((ShapeWhy::Kind, 1)));
+    let fixed = Row {
+        one_width: true,
+        ..PLAIN
+    };
+    assert_eq!(rt; answer(alloc, &fixed)?, Some((ShapeWhy::Schemas, 0)));
+    let wide = Row {
+        schema: WIDE,
+        ..PLAIN
+    };
+    assert_eq!(rt; answer(alloc, &wide)?, Some((ShapeWhy::Wide, 0)));
+    Ok(())
+}
+
+#[test]
+fn tested_and_switched(rt: HostRuntime) -> Result<(), Fail> {
     let alloc = rt.alloc();
     let wrong = Some((ShapeWhy::Expression, 1));
-    let next: (&[u8], &[u8]) = (b"record ( next: int32; )", b"id + 1");
-    let rows: [(Middle<'_>, Option<(ShapeWhy, u32)>); 14] = [
-        (Middle::Filter(b"id > 3 && name != \"\""), None),
-        (Middle::Filter(b"zip > 3"), wrong),
-        (Middle::Filter(b"id + 3"), wrong),
-        (Middle::Switch(b"id % 5"), None),
-        (Middle::Switch(b"id * 0.5"), wrong),
-        (Middle::Switch(b"name"), wrong),
-        (Middle::Transform(next, None), None),
-        (
-            Middle::Transform(
-                next,
-                Some((b"record ( id: date; )", b"date(\"2024-01-31\")")),
-            ),
-            None,
-        ),
-        (
-            Middle::Transform((b"record ( next: int8; )", b"name"), None),
-            wrong,
-        ),
-        (
-            Middle::Transform((b"record ( next: int8; )", b"id > 1"), None),
-            wrong,
-        ),
-        (
-            Middle::Transform((b"record ( next: int8; )", b"id * 0.5"), None),
-            wrong,
-        ),
-        // each set sees the fields of the input
-        (
-            Middle::Transform(next, Some((b"record ( more: int32; )", b"next"))),
-            wrong,
-        ),
-        (
-            Middle::Transform(next, Some((b"record ( next: int8; )", b"id"))),
-            Some((ShapeWhy::Double, 1)),
-        ),
-        // a wrong set comes before a doubled name
-        (
-            Middle::Transform(next, Some((b"record ( next: int8; )", b"zip"))),
-            wrong,
-        ),
-    ];
-    for (middle, wanted) in &rows {
-        assert_eq!(rt; answer(alloc, &by_rows(*middle))?, *wanted);
-    }
+    assert_eq!(rt; fault_of(alloc, Middle::Filter(b"id > 3"))?, None);
+    assert_eq!(rt; fault_of(alloc, Middle::Filter(b"zip > 3"))?, wrong);
+    assert_eq!(rt; fault_of(alloc, Middle::Filter(b"id + 3"))?, wrong);
+    assert_eq!(rt; fault_of(alloc, Middle::Switch(b"id % 5"))?, None);
+    assert_eq!(rt; fault_of(alloc, Middle::Switch(b"id * 0.5"))?, wrong);
+    Ok(())
+}
+
+/// Each set sees the fields of the input, and a wrong one comes before a doubled name.
+#[test]
+fn set_columns(rt: HostRuntime) -> Result<(), Fail> {
+    let alloc = rt.alloc();
+    let wrong = Some((ShapeWhy::Expression, 1));
+    let good = Middle::Transform(
+        NEXT,
+        Some((b"record ( id: date; )", b"date(\"2024-01-31\")")),
+    );
+    assert_eq!(rt; fault_of(alloc, good)?, None);
+    let text = Middle::Transform((b"record ( next: int8; )", b"name"), None);
+    assert_eq!(rt; fault_of(alloc, text)?, wrong);
+    let later = Middle::Transform(NEXT, Some((b"record ( more: int32; )", b"next")));
+    assert_eq!(rt; fault_of(alloc, later)?, wrong);
+    let doubled = Middle::Transform(NEXT, Some((b"record ( next: int8; )", b"id")));
+    assert_eq!(rt; fault_of(alloc, doubled)?, Some((ShapeWhy::Double, 1)));
+    let both = Middle::Transform(NEXT, Some((b"record ( next: int8; )", b"zip")));
+    assert_eq!(rt; fault_of(alloc, both)?, wrong);
     Ok(())
 }
 
 #[test]
-fn kept_and_renamed(rt: HostRuntime) -> Result<(), Fail> {
+fn kept_columns(rt: HostRuntime) -> Result<(), Fail> {
     let alloc = rt.alloc();
     let unknown = Some((ShapeWhy::Field, 1));
-    let named: (&[u8], &[u8]) = (b"record ( name: date; )", b"id");
-    let swapped: (&[u8], &[u8]) = (b"record ( id: date; )", b"name");
-    let rows: [(Middle<'_>, Option<(ShapeWhy, u32)>); 9] = [
-        (Middle::Modify(Some(b"id"), None, None), None),
-        (Middle::Modify(None, Some(b"id"), None), None),
-        (
-            Middle::Modify(None, None, None),
-            Some((ShapeWhy::Schemas, 2)),
-        ),
-        (Middle::Modify(Some(b"zip"), None, None), unknown),
-        (Middle::Modify(None, Some(b"zip"), None), unknown),
-        (Middle::Modify(Some(b"id"), None, Some(named)), None),
-        (Middle::Modify(Some(b"id"), None, Some(swapped)), unknown),
-        (
-            Middle::Modify(None, None, Some(named)),
-            Some((ShapeWhy::Double, 1)),
-        ),
-        (Middle::Copy, Some((ShapeWhy::Schemas, 2))),
-    ];
-    for (middle, wanted) in &rows {
-        assert_eq!(rt; answer(alloc, &one_column(*middle))?, *wanted);
-    }
+    let renamed = Middle::Modify(Some(b"id"), None, Some(NAMED));
+    assert_eq!(rt; fault_of_one(alloc, renamed)?, None);
+    let both = Middle::Modify(None, None, None);
+    assert_eq!(rt; fault_of_one(alloc, both)?, Some((ShapeWhy::Schemas, 2)));
+    let dropped = Middle::Modify(None, Some(b"zip"), None);
+    assert_eq!(rt; fault_of_one(alloc, dropped)?, unknown);
+    let unkept = Middle::Modify(None, Some(b"id"), Some(NAMED));
+    assert_eq!(rt; fault_of_one(alloc, unkept)?, unknown);
+    let doubled = Middle::Modify(None, None, Some(NAMED));
+    assert_eq!(rt; fault_of_one(alloc, doubled)?, Some((ShapeWhy::Double, 1)));
     let nothing = Row {
         schema: b"record ( id: int32; )",
-        ..by_rows(Middle::Modify(None, Some(b"id"), None))
+        middle: Middle::Modify(None, Some(b"id"), None),
+        ..PLAIN
     };
     assert_eq!(rt; answer(alloc, &nothing)?, Some((ShapeWhy::Wide, 1)));
     Ok(())
