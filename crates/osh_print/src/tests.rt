@@ -422,30 +422,38 @@ fn printed(alloc: Global, kind: OpKind) -> Result<Bytes, Fail> {
     Ok(print_flow(alloc, &flow)?)
 }
 
+/// Whether an operator alone is printed so.
+fn is_printed(alloc: Global, kind: OpKind, wanted: &str) -> Result<bool, Fail> {
+    let text = printed(alloc, kind)?;
+    Ok(text.as_slice() == wanted.as_bytes())
+}
+
+const TESTED: &str = "filter -where \"a == 'x'\" -reject;\n";
+
+const QUOTED: &str = "filter -where 'a == \"x\"';\n";
+
+const SETS: &str =
+    "transform -set \"b: int32 = a + 1\" -set 'c: nullable decimal[8,0] = \"x\"' -set \"a: string[max=5] = 'x'\" -set \"d: string[3] = b\" -reject;\n";
+
+const SWITCHED: &str =
+    "switch -on \"a % 3\" -cases \"1,-2,0,-9223372036854775808,9223372036854775807\";\n";
+
 #[test]
-fn expressions_are_printed(rt: HostRuntime) -> Result<(), Fail> {
+fn filters_are_printed(rt: HostRuntime) -> Result<(), Fail> {
     let alloc = rt.alloc();
-    let cases = [
-        (
-            filter(alloc, "a == 'x'", true)?,
-            "filter -where \"a == 'x'\" -reject;\n",
-        ),
-        (
-            filter(alloc, "a == \"x\"", false)?,
-            "filter -where 'a == \"x\"';\n",
-        ),
-        (
-            transform(alloc)?,
-            "transform -set \"b: int32 = a + 1\" -set 'c: nullable decimal[8,0] = \"x\"' -set \"a: string[max=5] = 'x'\" -set \"d: string[3] = b\" -reject;\n",
-        ),
-        (
-            switch(alloc)?,
-            "switch -on \"a % 3\" -cases \"1,-2,0,-9223372036854775808,9223372036854775807\";\n",
-        ),
-    ];
-    for (kind, wanted) in cases {
-        let text = printed(alloc, kind)?;
-        assert!(rt; text.as_slice() == wanted.as_bytes(), "{wanted}");
-    }
+    let tested = filter(alloc, "a == 'x'", true)?;
+    assert!(rt; is_printed(alloc, tested, TESTED)?);
+    let quoted = filter(alloc, "a == \"x\"", false)?;
+    assert!(rt; is_printed(alloc, quoted, QUOTED)?);
+    Ok(())
+}
+
+#[test]
+fn sets_and_cases_are_printed(rt: HostRuntime) -> Result<(), Fail> {
+    let alloc = rt.alloc();
+    let set = transform(alloc)?;
+    assert!(rt; is_printed(alloc, set, SETS)?);
+    let switched = switch(alloc)?;
+    assert!(rt; is_printed(alloc, switched, SWITCHED)?);
     Ok(())
 }
