@@ -18,8 +18,8 @@ fn digit_count(bytes: &[u8]) -> usize
         .count()
 }
 
-/// The digits before a point, and what stands behind it. None where no point follows
-/// the digits, or nothing follows the point.
+/// The digits in front, and those behind the point where there is one. None where something
+/// other than a point follows the digits, or nothing follows the point.
 fn split_point(bytes: &[u8]) -> Option<(&[u8], &[u8])>
     ensures { MatchOption result ((whole fraction : List ℕ) → all_ascii_digits whole ≡ true → bytes.now ≢ whole ++ point_text fraction) (λ p. (all_ascii_digits p.0.now ≡ true) × (bytes.now ≡ p.0.now ++ point_text p.1.now)) }
 {

@@ -19,6 +19,7 @@ mod write;
 pub use bytes::Bytes;
 pub use canonical_form::canonical;
 pub use copied::{Copied, copied_items};
+pub use date::civil_date;
 pub use items::Items;
 pub use kind::{Kind, fits};
 pub use laws::{

@@ -105,6 +105,24 @@ fn texts_and_dates(rt: HostRuntime) -> Result<(), Fail> {
     Ok(())
 }
 
+fn day_of(alloc: Global, text: &[u8]) -> Result<i32, Fail> {
+    match read_text(alloc, &Kind::Date, text)? {
+        Value::Date(day) => Ok(day),
+        _ => Err(Fail::from("no date")),
+    }
+}
+
+#[test]
+fn days_are_counted_from_1970(rt: HostRuntime) -> Result<(), Fail> {
+    let alloc = rt.alloc();
+    assert_eq!(rt; day_of(alloc, b"1970-01-01")?, 0);
+    assert_eq!(rt; day_of(alloc, b"1969-12-31")?, -1);
+    assert_eq!(rt; day_of(alloc, b"2000-03-01")?, 11_017);
+    assert_eq!(rt; day_of(alloc, b"0001-01-01")?, -719_162);
+    assert_eq!(rt; day_of(alloc, b"9999-12-31")?, 2_932_896);
+    Ok(())
+}
+
 fn canonical_of(alloc: Global, value: &Value) -> Result<Bytes, NoMemory>
     requires { IsShort value.now }
 {
@@ -122,6 +140,14 @@ fn canonical_bytes(rt: HostRuntime) -> Result<(), Fail> {
         minus_two.as_slice(),
         [1, 255, 255, 255, 255, 255, 255, 255, 254].as_slice()
     );
+    let null = canonical_of(alloc, &Value::Null)?;
+    assert_eq!(rt; null.as_slice(), [0].as_slice());
+    let count = canonical_of(alloc, &Value::UInt(258))?;
+    assert_eq!(rt; count.as_slice(), [2, 0, 0, 0, 0, 0, 0, 1, 2].as_slice());
+    let units = canonical_of(alloc, &Value::Dec(-2))?;
+    assert_eq!(rt; units.as_slice().len(), 17);
+    assert_eq!(rt; units.as_slice().first(), Some(&3));
+    assert_eq!(rt; units.as_slice().last(), Some(&254));
     let day = canonical_of(alloc, &Value::Date(1))?;
     assert_eq!(rt; day.as_slice(), [5, 0, 0, 0, 1].as_slice());
     let letters = Bytes::from_vec(b"hi".to_vec(alloc)?);

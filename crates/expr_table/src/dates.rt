@@ -6,9 +6,9 @@ ghost use Rattle.expr_table.specs.Calls.{AreInRange};
 ghost use Rattle.expr_table.specs.Groups.{IsOfDate};
 ghost use Rattle.expr_table.specs.Meaning.{date, later_date, one_date, value_of};
 
-use crate::civil::civil_date;
 use crate::number::number;
 use crate::{Arg, EvalFault, FnName};
+use ds_value::civil_date;
 
 /// The date, where it is from 0001-01-01 to 9999-12-31.
 fn date(day: i128) -> Result<Arg, EvalFault>

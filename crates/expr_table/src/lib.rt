@@ -5,7 +5,6 @@ mod applied;
 mod arg;
 mod arithmetic;
 mod choose;
-mod civil;
 mod compare;
 mod dates;
 mod entry;

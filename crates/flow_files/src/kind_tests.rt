@@ -27,8 +27,9 @@ type Case = (
     &'static [u8],
 );
 
-/// The least and the greatest value of each kind, one past each, and other spellings; texts, dates
-/// and nulls; other delimiters and fixed widths on both sides.
+/// The least and the greatest value of each kind of numbers and of dates, one past each, and other
+/// spellings; the days that months have; texts and nulls; other delimiters and fixed widths on both
+/// sides. The greatest lengths of texts have a test of their own.
 const CASES: [Case; 24] = [
     (
         b"record ( a: int8; )",
@@ -81,26 +82,26 @@ const CASES: [Case; 24] = [
     (
         b"record ( a: uint32; )",
         COMMAS,
-        b"4294967295\n0\n4294967296\n",
+        b"4294967295\n0\n4294967296\n-1\n",
         COMMAS,
         b"4294967295\n0\n",
-        b"4294967296\n",
+        b"4294967296\n-1\n",
     ),
     (
         b"record ( a: uint64; )",
         COMMAS,
-        b"18446744073709551615\n0\n18446744073709551616\n",
+        b"18446744073709551615\n0\n18446744073709551616\n-1\n",
         COMMAS,
         b"18446744073709551615\n0\n",
-        b"18446744073709551616\n",
+        b"18446744073709551616\n-1\n",
     ),
     (
         b"record ( d: decimal[5,2]; )",
         COMMAS,
-        b"1.5\n1.500\n1.505\n.5\n5.\n+7\n-0.00\n999.99\n1000\n-3\n0.05\n-0.05\n007.1\n-999.99\n1e2\n",
+        b"1.5\n1.500\n1.505\n.5\n5.\n+7\n-0.00\n999.99\n1000\n-3\n0.05\n-0.05\n007.1\n-999.99\n1e2\n-1000\n",
         COMMAS,
         b"1.50\n1.50\n7.00\n0.00\n999.99\n-3.00\n0.05\n-0.05\n7.10\n-999.99\n",
-        b"1.505\n.5\n5.\n1000\n1e2\n",
+        b"1.505\n.5\n5.\n1000\n1e2\n-1000\n",
     ),
     (
         b"record ( d: decimal[38]; )",
@@ -113,10 +114,10 @@ const CASES: [Case; 24] = [
     (
         b"record ( d: decimal[38,38]; )",
         COMMAS,
-        b"0.99999999999999999999999999999999999999\n1\n-0.00000000000000000000000000000000000001\n0.000000000000000000000000000000000000001\n",
+        b"0.99999999999999999999999999999999999999\n-0.99999999999999999999999999999999999999\n1\n-1\n-0.00000000000000000000000000000000000001\n0.000000000000000000000000000000000000001\n",
         COMMAS,
-        b"0.99999999999999999999999999999999999999\n-0.00000000000000000000000000000000000001\n",
-        b"1\n0.000000000000000000000000000000000000001\n",
+        b"0.99999999999999999999999999999999999999\n-0.99999999999999999999999999999999999999\n-0.00000000000000000000000000000000000001\n",
+        b"1\n-1\n0.000000000000000000000000000000000000001\n",
     ),
     (
         b"record ( d: decimal[1,0]; )",
@@ -137,17 +138,17 @@ const CASES: [Case; 24] = [
     (
         b"record ( d: date; )",
         COMMAS,
-        b"2024-02-29\n2023-02-29\n0001-01-01\n9999-12-31\n0000-12-31\n10000-01-01\n2024-1-1\n2024-00-01\n2024-13-01\n2024-04-30\n2024-04-31\n1900-02-29\n2000-02-29\n20240101\n2024-01-01 \n+2024-01-01\n",
+        b"2024-02-29\n2023-02-29\n0001-01-01\n9999-12-31\n0000-12-31\n10000-01-01\n2024-1-1\n2024-00-01\n2024-13-01\n2024-04-30\n2024-04-31\n1900-02-29\n2000-02-29\n20240101\n2024-01-01 \n+2024-01-01\n2024/01/01\n202x-01-01\n",
         COMMAS,
         b"2024-02-29\n0001-01-01\n9999-12-31\n2024-04-30\n2000-02-29\n",
-        b"2023-02-29\n0000-12-31\n10000-01-01\n2024-1-1\n2024-00-01\n2024-13-01\n2024-04-31\n1900-02-29\n20240101\n2024-01-01 \n+2024-01-01\n",
+        b"2023-02-29\n0000-12-31\n10000-01-01\n2024-1-1\n2024-00-01\n2024-13-01\n2024-04-31\n1900-02-29\n20240101\n2024-01-01 \n+2024-01-01\n2024/01/01\n202x-01-01\n",
     ),
     (
         b"record ( d: date; )",
         COMMAS,
-        b"2023-01-31\n2023-01-32\n2023-03-31\n2023-05-31\n2023-06-30\n2023-06-31\n2023-07-31\n2023-08-31\n2023-09-31\n2023-10-31\n2023-11-31\n2023-12-31\n2023-12-00\n",
+        b"2023-01-31\n2023-01-32\n2023-03-31\n2023-05-31\n2023-06-30\n2023-06-31\n2023-07-31\n2023-08-31\n2023-09-31\n2023-10-31\n2023-11-31\n2023-12-31\n2023-12-00\n2023-02-28\n2023-09-30\n2023-11-30\n",
         COMMAS,
-        b"2023-01-31\n2023-03-31\n2023-05-31\n2023-06-30\n2023-07-31\n2023-08-31\n2023-10-31\n2023-12-31\n",
+        b"2023-01-31\n2023-03-31\n2023-05-31\n2023-06-30\n2023-07-31\n2023-08-31\n2023-10-31\n2023-12-31\n2023-02-28\n2023-09-30\n2023-11-30\n",
         b"2023-01-32\n2023-06-31\n2023-09-31\n2023-11-31\n2023-12-00\n",
     ),
     (
@@ -304,6 +305,28 @@ fn all_kinds_and_forms_are_carried(rt: HostRuntime) -> Result<(), Fail> {
         assert_eq!(rt; carried.1.as_slice(), bad, "{text:?}");
         assert_eq!(rt; carried.2, 0, "{text:?}");
     }
+    Ok(())
+}
+
+/// The number of bytes that are written of a line of so many, its newline included; 0 where it is bad.
+fn written_of(alloc: Global, schema: &[u8], length: usize) -> Result<usize, Fail> {
+    let ways = ways_of(alloc, schema, COMMAS, COMMAS)?;
+    let mut line = vec![in alloc; b'x'; length]?;
+    line.push(b'\n')?;
+    let carried = carry(alloc, &ways, &line)?;
+    Ok(carried.0.as_slice().len())
+}
+
+#[test]
+fn texts_have_their_greatest_length(rt: HostRuntime) -> Result<(), Fail> {
+    let alloc = rt.alloc();
+    let usual = b"record ( s: string; )";
+    assert_eq!(rt; written_of(alloc, usual, 4_096)?, 4_097);
+    assert_eq!(rt; written_of(alloc, usual, 4_097)?, 0);
+    let filled = b"record ( s: string[65536]; )";
+    assert_eq!(rt; written_of(alloc, filled, 0)?, 65_537);
+    assert_eq!(rt; written_of(alloc, filled, 65_536)?, 65_537);
+    assert_eq!(rt; written_of(alloc, filled, 65_537)?, 0);
     Ok(())
 }
 

@@ -26,6 +26,12 @@ const DOUBLED: &[u8] =
 const DIVIDED: &[u8] =
     b"import -file \"in.txt\" -schema 'record ( id: int32; )' | [rr] transform -set 'part: int32 = 10 / id' | [any] export -file \"out.txt\"";
 
+const PARTED: &[u8] =
+    b"import -file \"in.txt\" -schema 'record ( id: int32; name: string[max=4]; )' -fixed '3,4' | filter -where 'id > 0' [seq] | modify -keep 'name,id' -rename 'n=id' [seq] | switch -on 'n % 2' -cases '1' -reject [seq] > rest.v | export -file \"out.txt\" -delim ';'; export -file \"rest.txt\" < rest.v";
+
+const REJECTED: &[u8] =
+    b"import -file \"in.txt\" -schema 'record ( id: int32; )' | [hash id] transform -set 'part: int32 = 10 / id' -reject > rest.v | [any] export -file \"out.txt\"; export -file \"rest.txt\" < [any] rest.v";
+
 const NODE: &[u8] =
     b"\" { fastname \"h\" pools \"\" resource disk \"d\" {pools \"\"} resource scratchdisk \"s\" {pools \"\"} }\n";
 
@@ -62,7 +68,7 @@ fn run_words(alloc: Global) -> Result<Vec<String>, Fail> {
 }
 
 /// A run: the flow, the number of nodes and the input, and what it comes to: the status, what is on
-/// out and on err, and the file that is written.
+/// out and on err, and what is written to `out.txt` and to `rest.txt`.
 struct Run {
     flow: &'static [u8],
     nodes: u8,
@@ -71,6 +77,7 @@ struct Run {
     out: &'static [u8],
     err: &'static [u8],
     written: Option<&'static [u8]>,
+    rest: Option<&'static [u8]>,
 }
 
 fn compare(rt: &impl Abort, alloc: Global, run: &Run) -> Result<(), Fail> {
@@ -86,10 +93,11 @@ fn compare(rt: &impl Abort, alloc: Global, run: &Run) -> Result<(), Fail> {
     assert_eq!(rt; out.bytes(), run.out);
     assert_eq!(rt; answered.0, run.status);
     assert_eq!(rt; files.look_up(b"out.txt"), run.written);
+    assert_eq!(rt; files.look_up(b"rest.txt"), run.rest);
     Ok(())
 }
 
-const RUNS: [Run; 10] = [
+const RUNS: [Run; 12] = [
     Run {
         flow: DOUBLED,
         nodes: 2,
@@ -98,6 +106,7 @@ const RUNS: [Run; 10] = [
         out: b"score nodes 2\nop 0 import seq 1\nop 1 filter seq 1\nop 2 transform seq 1\nop 3 export seq 1\nlink 0 0.0 1.0 same\nlink 1 1.0 2.0 same\nlink 2 2.0 3.0 same\nplayers 4\nverdict accepted\nlink 0 agree() solo sort()\nlink 1 agree() solo sort()\nlink 2 agree() solo sort()\nsink 3 exact\ncount 0 3\ncount 1 2\ncount 2 2\nstatus 0\n",
         err: b"",
         written: Some(b"2,1.25,2.50\n3,,0.00\n"),
+        rest: None,
     },
     Run {
         flow: DIVIDED,
@@ -107,6 +116,7 @@ const RUNS: [Run; 10] = [
         out: b"score nodes 2\nop 0 import seq 1\nop 1 transform par 2\nop 2 export seq 1\nlink 0 0.0 1.0 rr\nlink 1 1.0 2.0 any\nplayers 4\nverdict accepted\nlink 0 bag none sort()\nlink 1 bag solo sort()\nsink 2 bag\nfaults 2\nleast op 1 ZeroDivisor 0 010000000000000000\nstatus 9\n",
         err: b"",
         written: None,
+        rest: None,
     },
     Run {
         flow: COPY,
@@ -116,6 +126,7 @@ const RUNS: [Run; 10] = [
         out: b"score nodes 1\nop 0 import seq 1\nop 1 copy seq 1\nop 2 export seq 1\nlink 0 0.0 1.0 same\nlink 1 1.0 2.0 same\nplayers 3\nverdict accepted\nlink 0 agree() solo sort()\nlink 1 agree() solo sort()\nsink 2 exact\ncount 0 2\ncount 1 2\nstatus 0\n",
         err: b"",
         written: Some(b"1,\"a,b\"\n-2,\"d \"\"e\"\"\"\n"),
+        rest: None,
     },
     Run {
         flow: COPY,
@@ -125,6 +136,7 @@ const RUNS: [Run; 10] = [
         out: b"score nodes 4\nop 0 import seq 1\nop 1 copy seq 1\nop 2 export seq 1\nlink 0 0.0 1.0 same\nlink 1 1.0 2.0 same\nplayers 3\nverdict accepted\nlink 0 agree() solo sort()\nlink 1 agree() solo sort()\nsink 2 exact\nfaults 1\nleast op 0 BadRecord 2 782c626f62\nstatus 9\n",
         err: b"",
         written: None,
+        rest: None,
     },
     Run {
         flow: FIRST_PER_KEY,
@@ -134,6 +146,7 @@ const RUNS: [Run; 10] = [
         out: b"score nodes 4\nop 0 import seq 1\nop 1 tsort par 4\nop 2 remdup par 4\nop 3 export seq 1\nlink 0 0.0 1.0 hash(id)\nlink 1 1.0 2.0 same\nlink 2 2.0 3.0 any\nplayers 10\nverdict accepted\nlink 0 agree(id) hash(id) sort()\nlink 1 agree(id) hash(id) sort(id)\nlink 2 agree(id) solo sort()\nsink 3 by id\ncount 0 6\ncount 1 6\ncount 2 4\nstatus 0\n",
         err: b"",
         written: Some(b"4,rome\n3,kyiv\n2,rome\n1,oslo\n"),
+        rest: None,
     },
     Run {
         flow: FIRST_PER_KEY,
@@ -143,6 +156,7 @@ const RUNS: [Run; 10] = [
         out: b"score nodes 1\nop 0 import seq 1\nop 1 tsort par 1\nop 2 remdup par 1\nop 3 export seq 1\nlink 0 0.0 1.0 hash(id)\nlink 1 1.0 2.0 same\nlink 2 2.0 3.0 any\nplayers 4\nverdict accepted\nlink 0 agree(id) hash(id) sort()\nlink 1 agree(id) hash(id) sort(id)\nlink 2 agree(id) solo sort()\nsink 3 by id\ncount 0 3\ncount 1 3\ncount 2 2\nstatus 0\n",
         err: b"",
         written: Some(b"1,oslo\n2,rome\n"),
+        rest: None,
     },
     Run {
         flow: SPLIT_KEYS,
@@ -152,6 +166,7 @@ const RUNS: [Run; 10] = [
         out: b"verdict refused link 2 need agree(b) have agree(a,b) hash(b) sort(b)\nstatus 5\n",
         err: b"",
         written: None,
+        rest: None,
     },
     Run {
         flow: SPLIT_KEYS,
@@ -161,6 +176,7 @@ const RUNS: [Run; 10] = [
         out: b"verdict refused link 2 need agree(b) have agree(a,b) hash(b) sort(b)\nstatus 5\n",
         err: b"",
         written: None,
+        rest: None,
     },
     Run {
         flow: SAME_INTO_MANY,
@@ -170,6 +186,7 @@ const RUNS: [Run; 10] = [
         out: b"",
         err: b"osh: degree link 0 1 4\n",
         written: None,
+        rest: None,
     },
     Run {
         flow: DEALT,
@@ -179,6 +196,27 @@ const RUNS: [Run; 10] = [
         out: b"score nodes 2\nop 0 import seq 1\nop 1 copy par 2\nop 2 export seq 1\nlink 0 0.0 1.0 rr\nlink 1 1.0 2.0 any\nplayers 4\nverdict accepted\nlink 0 bag none sort()\nlink 1 bag solo sort()\nsink 2 bag\ncount 0 3\ncount 1 3\nstatus 0\n",
         err: b"",
         written: Some(b"1,ann\n3,cy\n2,bob\n"),
+        rest: None,
+    },
+    Run {
+        flow: PARTED,
+        nodes: 1,
+        input: b"  7ann \n -2bob\n 10cid\n  3dave\n",
+        status: 0,
+        out: b"score nodes 1\nop 0 import seq 1\nop 1 filter seq 1\nop 2 modify seq 1\nop 3 switch seq 1\nop 4 export seq 1\nop 5 export seq 1\nlink 0 0.0 1.0 same\nlink 1 1.0 2.0 same\nlink 2 2.0 3.0 same\nlink 3 3.0 4.0 same\nlink 4 3.1 5.0 same\nplayers 6\nverdict accepted\nlink 0 agree() solo sort()\nlink 1 agree() solo sort()\nlink 2 agree() solo sort()\nlink 3 agree() solo sort()\nlink 4 agree() solo sort()\nsink 4 exact\nsink 5 exact\ncount 0 4\ncount 1 3\ncount 2 3\ncount 3 2\ncount 4 1\nstatus 0\n",
+        err: b"",
+        written: Some(b"ann;7\ndave;3\n"),
+        rest: Some(b"cid,10\n"),
+    },
+    Run {
+        flow: REJECTED,
+        nodes: 2,
+        input: b"5\n0\n-3\n0\n",
+        status: 0,
+        out: b"score nodes 2\nop 0 import seq 1\nop 1 transform par 2\nop 2 export seq 1\nop 3 export seq 1\nlink 0 0.0 1.0 hash(id)\nlink 1 1.0 2.0 any\nlink 2 1.1 3.0 any\nplayers 5\nverdict accepted\nlink 0 bag hash(id) sort()\nlink 1 agree(id) solo sort()\nlink 2 bag solo sort()\nsink 2 by id\nsink 3 bag\ncount 0 4\ncount 1 2\ncount 2 2\nstatus 0\n",
+        err: b"",
+        written: Some(b"-3,-3\n5,2\n"),
+        rest: Some(b"0\n0\n"),
     },
 ];
 
