@@ -1,4 +1,4 @@
-ghost use Rattle.std.specs.Prelude.{◌≡◌, ℕ, List, [], IsTrue, IfOk};
+ghost use Rattle.std.specs.Prelude.{◌≡◌, ◌≢◌, ◌+◌, ◌-◌, ◌^◌, ℕ, min, List, [], IsTrue, IfOk};
 ghost use Rattle.ds_port.specs.Causes.{HasCause};
 ghost use Rattle.ds_port.specs.Failing.{is_listed};
 
@@ -13,13 +13,14 @@ pub trait Failures: Drop {
     /// The numbers of the calls that fail, counted from 0.
     ghost numbers: { Self → List ℕ };
 
-    /// The number of the next call.
+    /// The number of the next call; where no number is listed, none is counted.
     ghost calls: { Self → ℕ };
 
     /// Whether the next call fails.
     fn fails(&mut self) -> bool
         ensures listed { result ≡ is_listed (numbers self.old) (calls self.old) }
         ensures numbers { numbers self.new ≡ numbers self.old }
+        ensures calls { numbers self.old ≢ [] → calls self.new ≡ min (calls self.old + 1) (2 ^ 64 - 1) }
         ensures cause { HasCause (count self.old) (count self.new) (IsTrue result) };
 
     fn faults(&self) -> u64
