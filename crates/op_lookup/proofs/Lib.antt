@@ -1,0 +1,4 @@
+pub mod Told
+pub mod Finding
+pub mod Feeding
+pub mod Means
