@@ -31,7 +31,7 @@ pub main_port : (feeds : List (Feed Row)) (port : ℕ) → wanted feeds port ≡
 main_port feeds port w ne = let below : port < 2 = (picks_open 2 second_first (λ i. not (ended i feeds)) port w).0 in grind (arith, below)
 
 -- another port's feed
-rows_of-other : (p q : ℕ) (feeds : List (Feed Row)) (r : Row) → q ≢ p → rows_of p (feeds ++ row_feed q r ∷ []) ≡ rows_of p feeds
+pub rows_of-other : (p q : ℕ) (feeds : List (Feed Row)) (r : Row) → q ≢ p → rows_of p (feeds ++ row_feed q r ∷ []) ≡ rows_of p feeds
 rows_of-other p q feeds r ne = ap rows (items-append p feeds (row_feed q r ∷ []) ∙ ap (λ b. items_of p feeds ++ cond b (row r ∷ []) []) (eq_false q p ne) ∙ append-nil (items_of p feeds))
 
 ended-other : (p q : ℕ) (feeds : List (Feed Row)) → q ≢ p → ended p (feeds ++ end_feed q ∷ []) ≡ ended p feeds

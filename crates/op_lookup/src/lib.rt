@@ -11,3 +11,6 @@ mod table;
 
 pub use looker::Lookup;
 pub use maker::lookup;
+
+#[cfg(test)]
+mod tests;
