@@ -1,5 +1,5 @@
 -- What one more feed changes of what lookup's operator stands for, and which port it wants.
-use Rattle.std.proofs.Common.{◌≡◌, ◌≢◌, ℕ, zero, suc, ◌+◌, ◌<◌, ◌==◌, Bool, true, false, not, ◌&&◌, cond, refl, sym, ap, ap₂, ◌∙◌, subst, List, [], ◌∷◌, ◌++◌, append-nil, length, Option, arith}
+use Rattle.std.proofs.Common.{◌≡◌, ◌≢◌, ℕ, zero, suc, ◌<◌, Bool, true, not, cond, sym, ap, ◌∙◌, subst, List, [], ◌∷◌, ◌++◌, append-nil, length, arith}
 use Rattle.std.specs.List.{All, AllByRecursion, list_all}
 use Rattle.std.specs.Map.{lookup}
 use Rattle.std.specs.Prelude.{nat_lt}
@@ -8,7 +8,7 @@ use Rattle.std.proofs.lemmas.Bool.{ltb-true, eqb-true}
 use Rattle.std.proofs.lemmas.List.Folds.{list_all-append}
 use Rattle.streams.specs.Streams.{row, end, Feed, has_end, rows, items_of, ended, rows_of}
 use Rattle.streams.specs.Operators.{second_first, picks}
-use Rattle.streams.proofs.Basics.{and_left, and_right, and_true}
+use Rattle.streams.proofs.Basics.{and_left, and_right}
 use Rattle.streams.proofs.Picks.{picks_open}
 use Rattle.streams.proofs.StreamLaws.{items-append, eq_false}
 use Rattle.ds_value.specs.Canonical.{IsShort}

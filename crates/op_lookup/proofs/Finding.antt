@@ -1,15 +1,14 @@
 -- What is found in the table is the first of the reference rows that have the key values.
-use Rattle.std.proofs.Common.{◌≡◌, ℕ, zero, suc, ◌+◌, ◌<◌, ◌≤◌, ◌==◌, Bool, true, false, not, cond, ap, ap₂, sym, refl, ◌∙◌, subst, filter, List, [], ◌∷◌, ◌++◌, length, map, Option, Some, None, get_or, ext_get_or, take, arith}
+use Rattle.std.proofs.Common.{◌≡◌, ℕ, zero, suc, ◌+◌, ◌<◌, ◌≤◌, ◌==◌, Bool, true, false, not, cond, ap, ap₂, sym, refl, ◌∙◌, subst, filter, List, [], ◌∷◌, ◌++◌, length, Option, Some, None, get_or, ext_get_or, take, arith}
 use Rattle.std.proofs.lemmas.Bool.Decides.{nat_tests}
 use Rattle.std.proofs.lemmas.List.{take_more}
 use Rattle.std.proofs.lemmas.List.Elements.{filter-append}
 use Rattle.std.specs.List.{All, AllByRecursion, list_any, range_with_len}
 use Rattle.std.specs.Map.{lookup}
 use Rattle.std.specs.Str.{bytes_eq}
-use Rattle.streams.specs.Streams.{Feed, Out, sends, fails, rows_of}
+use Rattle.streams.specs.Streams.{Feed, Out, sends, rows_of}
 use Rattle.streams.proofs.StreamLaws.{eq_true}
 use Rattle.ds_value.specs.Canonical.{IsHeld, IsShort}
-use Rattle.ds_value.specs.declared.value.Value.{Value}
 use Rattle.ds_value.specs.declared.value.Value.TheVariants.{Null}
 use Rattle.ds_schema.specs.Rows.{at, val, has, sub, InWidth}
 use Rattle.op_base.specs.declared.fault.Fault.{Fault}

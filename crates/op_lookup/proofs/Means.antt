@@ -129,10 +129,10 @@ lookups-find-in-one-way values main reference width m k lists given is h g =
     let found = finds_by main reference width m lists given g in
     record {
       rows_are = λ q l. found.rows_are q l
-        ∙ one_for (λ n a. looked_row (looking n main reference width m) q a (sub reference (val main a) (lists 1))) (λ a. looked_row k q a (sub reference (val main a) (lists 1))) values (lists 0) (λ a. row_same values main reference width m k is q a (sub reference (val main a) (lists 1))) h
-        ∙ by_keys (looked_row k q) (cols k.main_keys) (cols k.reference_keys) main reference (lists 1) (lists 0) is.main_is is.reference_is;
+          ∙ one_for (λ n a. looked_row (looking n main reference width m) q a (sub reference (val main a) (lists 1))) (λ a. looked_row k q a (sub reference (val main a) (lists 1))) values (lists 0) (λ a. row_same values main reference width m k is q a (sub reference (val main a) (lists 1))) h
+          ∙ by_keys (looked_row k q) (cols k.main_keys) (cols k.reference_keys) main reference (lists 1) (lists 0) is.main_is is.reference_is;
       no_more = found.no_more;
       faults_are = found.faults_are
-        ∙ one_for (λ n a. looked_fault (looking n main reference width m) a (sub reference (val main a) (lists 1))) (λ a. looked_fault k a (sub reference (val main a) (lists 1))) values (lists 0) (λ a. fault_same values main reference width m k is a (sub reference (val main a) (lists 1))) h
-        ∙ by_keys (looked_fault k) (cols k.main_keys) (cols k.reference_keys) main reference (lists 1) (lists 0) is.main_is is.reference_is;
+          ∙ one_for (λ n a. looked_fault (looking n main reference width m) a (sub reference (val main a) (lists 1))) (λ a. looked_fault k a (sub reference (val main a) (lists 1))) values (lists 0) (λ a. fault_same values main reference width m k is a (sub reference (val main a) (lists 1))) h
+          ∙ by_keys (looked_fault k) (cols k.main_keys) (cols k.reference_keys) main reference (lists 1) (lists 0) is.main_is is.reference_is;
     }

@@ -1,11 +1,11 @@
 -- Canonical bytes tell the values of keys apart.
-use Rattle.std.proofs.Common.{◌≡◌, ℕ, Bool, true, false, ap, ap₂, sym, refl, ◌∙◌, subst, List, [], ◌∷◌, ◌++◌}
+use Rattle.std.proofs.Common.{◌≡◌, ℕ, Bool, true, false, ap, ap₂, sym, refl, List, [], ◌∷◌, ◌++◌}
 use Rattle.std.specs.List.{AllByRecursion, flat_map}
 use Rattle.std.specs.Str.{bytes_eq}
 use Rattle.std.proofs.lemmas.Slice.Eq.{bytes_eq-Decides}
 use Rattle.ds_value.specs.declared.value.Value.{Value}
 use Rattle.ds_value.specs.declared.value.Value.TheVariants.{Null, Int, UInt, Dec, Text, Date}
-use Rattle.ds_value.specs.Canonical.{canonical_bytes, IsHeld, IsShort}
+use Rattle.ds_value.specs.Canonical.{canonical_bytes}
 use Rattle.ds_value.proofs.CanonicalBytes.{canonical_once}
 use Rattle.ds_schema.specs.Rows.{val, has}
 use Rattle.op_base.specs.Columns.{Row}

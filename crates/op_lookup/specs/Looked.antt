@@ -1,5 +1,5 @@
 -- Lookup as a stream, and the rows that suit it.
-use Rattle.std.specs.Prelude.{ℕ, ◌^◌, ◌==◌, nat_lt, Bool, true, false, not, ◌&&◌, List, [], ◌∷◌, ◌++◌, length, map, take}
+use Rattle.std.specs.Prelude.{ℕ, ◌^◌, ◌==◌, nat_lt, Bool, true, false, not, ◌&&◌, List, ◌++◌, length, map, take}
 use Rattle.std.specs.List.{filter, flat_map, list_all}
 use Rattle.streams.specs.Streams.{Feed, Out, sends, fails, rows_of}
 use Rattle.streams.specs.Operators.{lookup_stream}

@@ -359,7 +359,10 @@ fn keys_have_several_columns(rt: HostRuntime) -> Result<(), Fail> {
 
 #[test]
 fn kinds_are_told_apart(rt: HostRuntime) -> Result<(), Fail> {
-    let reference: &[Cells] = &[&[Cell::UInt(1), Cell::Int(1)], &[Cell::Dec(2), Cell::Int(2)]];
+    let reference: &[Cells] = &[
+        &[Cell::UInt(1), Cell::Int(1)],
+        &[Cell::Dec(2), Cell::Int(2)],
+    ];
     let main: &[Cells] = &[&[Cell::Int(1)], &[Cell::Dec(2)]];
     let emit = looked(rt.alloc(), BY_NUMBER, Missing::Drop, main, reference)?;
     assert!(rt; are_sent(&emit, &[(0, &[Cell::Dec(2), Cell::Int(2)])]));
@@ -373,9 +376,20 @@ fn no_columns_are_one_key(rt: HostRuntime) -> Result<(), Fail> {
         reference: &[],
         width: 2,
     };
-    let emit = looked(rt.alloc(), sides, Missing::Fail, &[&[], &[Cell::Int(5)]], CITIES)?;
+    let emit = looked(
+        rt.alloc(),
+        sides,
+        Missing::Fail,
+        &[&[], &[Cell::Int(5)]],
+        CITIES,
+    )?;
     let second: Cells = &[Cell::Int(5), Cell::Int(1), Cell::Text(b"x")];
-    assert!(rt; are_sent(&emit, &[(0, &[Cell::Int(1), Cell::Text(b"x")]), (0, second)]));
+    assert!(rt;
+        are_sent(
+            &emit,
+            &[(0, &[Cell::Int(1), Cell::Text(b"x")]), (0, second)]
+        )
+    );
     assert!(rt; has_faults(&emit, 0, b""));
     Ok(())
 }

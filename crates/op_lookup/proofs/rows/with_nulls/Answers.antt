@@ -1,4 +1,4 @@
-use Rattle.std.proofs.Common.{ap, sym, ◌∙◌, [], ◌∷◌, ◌++◌, ◌+◌, take, append_assoc}
+use Rattle.std.proofs.Common.{ap, sym, ◌∙◌, [], ◌∷◌, ◌++◌, take, append_assoc}
 use Rattle.ds_value.specs.declared.value.Value.TheVariants.{Null}
 use Rattle.ds_schema.specs.Rows.{val}
 use Rattle.op_base.specs.Columns.{no_row}
