@@ -1,0 +1,5 @@
+pub mod Looked
+pub mod Table
+pub mod Standing
+pub mod AreStreams
+pub mod Laws
