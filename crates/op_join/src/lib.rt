@@ -12,3 +12,6 @@ mod side;
 pub use joiner::Join;
 pub use kind::JoinKind;
 pub use maker::join;
+
+#[cfg(test)]
+mod tests;
