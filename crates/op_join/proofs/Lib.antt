@@ -1,0 +1,4 @@
+pub mod Pieces
+pub mod Taking
+pub mod Standing
+pub mod Means

@@ -1,0 +1,22 @@
+use Rattle.std.proofs.Common.{cond, List, [], map, subst, ◌∙◌}
+use Rattle.streams.specs.Streams.{sends}
+use Rattle.op_base.specs.Columns.{Row, no_row}
+use Rattle.op_base.specs.Emits.{Adds}
+use Rattle.op_join.specs.Joining.{keeps_left}
+use Rattle.op_join.specs.Waiting.{meant, left_row}
+use Rattle.op_join.proofs.Taking.{takes_left}
+use Rattle.op_join.proofs.joiner.Join.take_left.Goals as goal
+
+pub returns-clause-taken : goal.returns-clause-taken
+returns-clause-taken c =
+    let P : List Row → Type 0 = λ rows. Adds c.args.emit.now c.send_lefts.new.emit (map (sends 0) (cond (keeps_left c.args.self.now.layout.kind) (map (left_row (meant c.args.self.now.layout) no_row) rows) [])) in
+    (takes_left c.args.self.now c.args.emit.now c.send_lefts.new.emit c.requires.sound c.take_run.new.self c.requires.turn
+    (record { run = c.in_ok-lefts.ensures.rest; next = c.in_ok-lefts.ensures.next; over = c.in_ok-lefts.ensures.over })
+    (subst P (c.as_slice.ensures.value ∙ c.in_ok-lefts.ensures.run) c.in_ok-send_lefts.ensures)).0
+
+pub returns-clause-fewer : goal.returns-clause-fewer
+returns-clause-fewer c =
+    let P : List Row → Type 0 = λ rows. Adds c.args.emit.now c.send_lefts.new.emit (map (sends 0) (cond (keeps_left c.args.self.now.layout.kind) (map (left_row (meant c.args.self.now.layout) no_row) rows) [])) in
+    (takes_left c.args.self.now c.args.emit.now c.send_lefts.new.emit c.requires.sound c.take_run.new.self c.requires.turn
+    (record { run = c.in_ok-lefts.ensures.rest; next = c.in_ok-lefts.ensures.next; over = c.in_ok-lefts.ensures.over })
+    (subst P (c.as_slice.ensures.value ∙ c.in_ok-lefts.ensures.run) c.in_ok-send_lefts.ensures)).1

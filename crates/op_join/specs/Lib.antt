@@ -1,0 +1,5 @@
+pub mod Joining
+pub mod Waiting
+pub mod Rounds
+pub mod AreStreams
+pub mod Laws

@@ -1,0 +1,2 @@
+pub mod KeyedStreams
+pub mod Laws
