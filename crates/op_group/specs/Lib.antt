@@ -1,0 +1,4 @@
+pub mod Results
+pub mod Groups
+pub mod Kept
+pub mod AreStreams
