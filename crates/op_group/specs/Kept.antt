@@ -3,7 +3,10 @@ use Rattle.std.specs.Prelude.{◌≡◌, ⊤, ℕ, zero, suc, ◌+◌, ◌*◌, 
 use Rattle.std.specs.List.{AllByRecursion}
 use Rattle.ds_value.specs.declared.value.Value.{Value}
 use Rattle.ds_value.specs.declared.value.Value.TheVariants.{Null, Int, UInt, Dec, Text, Date}
+use Rattle.streams.specs.Streams.{Out, sends, fails}
+use Rattle.op_base.specs.declared.fault.Fault.{Fault}
 use Rattle.op_base.specs.Columns.{Row}
+use Rattle.op_base.specs.Meanings.{row_of, overflow}
 use Rattle.op_group.specs.declared.agg.Agg.{Agg}
 use Rattle.op_group.specs.declared.agg.Agg.TheVariants as agg
 use Rattle.op_group.specs.declared.sum.Number.{Number}
@@ -12,7 +15,7 @@ use Rattle.op_group.specs.declared.sum.Sum.{Sum}
 use Rattle.op_group.specs.declared.running.Running.{Running}
 use Rattle.op_group.specs.declared.running.Running.TheVariants as running
 use Rattle.op_group.specs.declared.tally.Tally.{Tally}
-use Rattle.op_group.specs.Results.{is_null, present, total, as_int, as_uint, lesser, least, greatest, first_value, last_value, column}
+use Rattle.op_group.specs.Results.{group_fault, is_null, both, present, total, as_int, as_uint, lesser, least, greatest, first_value, last_value, column}
 
 -- the variant of a number
 abbrev pub number_kind : Value → Option Number
@@ -77,6 +80,10 @@ kept_value count (running.Max k) = Some k.value
 kept_value count (running.First k) = Some k.value
 kept_value count (running.Last k) = Some k.value
 
+abbrev pub kept_results : ℕ → List Running → Option (List Value)
+kept_results count [] = Some []
+kept_results count (k ∷ kept) = both (kept_value count k) (kept_results count kept)
+
 -- what was kept of some rows is kept of them and one more
 pub record Follows (before : ℕ) (row : Row) (old new : Running) : Type 0 where
   pub agg_is : agg_of new ≡ agg_of old
@@ -95,3 +102,7 @@ pub record TallyStands (aggs : List Agg) (rows : List Row) (tally : Tally) : Typ
   pub aggs_are : map agg_of tally.running.items ≡ aggs
   pub count_is : tally.count ≡ min (length rows) (2 ^ 62 + 1)
   pub each : length rows ≤ 2 ^ 62 → AllByRecursion (RunningStands rows) tally.running.items
+
+-- what a group of these key values gives for its results
+abbrev pub given : List Value → Option (List Value) → List (Out Row Fault)
+given values found = map (sends 0) (row_of values found) ++ map fails (overflow (group_fault values) found)

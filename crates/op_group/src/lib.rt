@@ -2,8 +2,14 @@
 #![tactic(auto)]
 
 mod agg;
+mod giving;
+mod groups;
+pub mod laws;
 mod running;
+mod sorted;
 mod sum;
 mod tally;
 
 pub use agg::Agg;
+pub use groups::group_sorted;
+pub use sorted::GroupSorted;
