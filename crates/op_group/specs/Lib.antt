@@ -1,0 +1,6 @@
+pub mod Results
+pub mod Groups
+pub mod Kept
+pub mod Runs
+pub mod AreStreams
+pub mod Laws
