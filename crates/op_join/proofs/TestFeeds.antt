@@ -1,5 +1,5 @@
 -- What suits a join when one more item is fed.
-use Rattle.std.proofs.Common.{◌≡◌, ℕ, zero, suc, Bool, true, false, ◌&&◌, cond, refl, sym, ap, ap₂, ◌∙◌, List, [], ◌∷◌, ◌++◌, get_or, length}
+use Rattle.std.proofs.Common.{◌≡◌, ℕ, zero, suc, Bool, true, ◌&&◌, refl, sym, ap, ◌∙◌, List, [], ◌∷◌, ◌++◌, get_or, length}
 use Rattle.std.specs.List.{list_all}
 use Rattle.streams.specs.Streams.{Feed, rows_of}
 use Rattle.streams.proofs.Basics.{and_left, and_right, and_true}
@@ -7,7 +7,6 @@ use Rattle.streams.proofs.StreamLaws.{eq_true}
 use Rattle.op_base.specs.Columns.{Row}
 use Rattle.op_base.specs.Feeds.{fed}
 use Rattle.op_base.specs.Standing.{end_feed, row_feed}
-use Rattle.op_runs.specs.KeyedStreams.{port_rows}
 use Rattle.op_runs.proofs.Ports.{port_rows-end, port_rows-row}
 use Rattle.op_join.specs.Joining.{is_short, join_suits, row_suits}
 

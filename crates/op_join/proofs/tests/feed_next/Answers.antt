@@ -1,4 +1,4 @@
-use Rattle.std.proofs.Common.{◌≡◌, ◌++◌, ◌∷◌, [], List, true, sym, ap, ◌∙◌}
+use Rattle.std.proofs.Common.{◌++◌, ◌∷◌, [], List, sym, ap, ◌∙◌}
 use Rattle.streams.specs.Streams.{Feed}
 use Rattle.op_base.specs.Columns.{Row}
 use Rattle.op_base.specs.Standing.{end_feed, row_feed}
@@ -27,7 +27,7 @@ returns-in_ok-feed-in-Some-clause-fed c =
       later,
       c.in_ok-feed-in-Some.ensures.stands c.requires.fed.0 c.requires.fed.1,
       ap (λ s. s later) c.in_ok-feed-in-Some.ensures.suits ∙ ap (λ s. s later) c.requires.suits
-      ∙ suits_row c.args.width c.args.port c.in-Some.row c.requires.fed.0 (sym c.suits.ensures ∙ c.if-not-suits.false) (sym (ap (λ s. s c.requires.fed.0) c.requires.suits) ∙ c.requires.fed.2),
+          ∙ suits_row c.args.width c.args.port c.in-Some.row c.requires.fed.0 (sym c.suits.ensures ∙ c.if-not-suits.false) (sym (ap (λ s. s c.requires.fed.0) c.requires.suits) ∙ c.requires.fed.2),
     )
 
 pub returns-in_ok-end-in-None-clause-fed : goal.returns-in_ok-end-in-None-clause-fed
@@ -36,5 +36,5 @@ returns-in_ok-end-in-None-clause-fed c =
       later,
       c.in_ok-end-in-None.ensures.stands c.requires.fed.0 c.requires.fed.1,
       ap (λ s. s later) c.in_ok-end-in-None.ensures.suits ∙ ap (λ s. s later) c.requires.suits
-      ∙ suits_end c.args.width c.args.port c.requires.fed.0 (sym (ap (λ s. s c.requires.fed.0) c.requires.suits) ∙ c.requires.fed.2),
+          ∙ suits_end c.args.width c.args.port c.requires.fed.0 (sym (ap (λ s. s c.requires.fed.0) c.requires.suits) ∙ c.requires.fed.2),
     )
