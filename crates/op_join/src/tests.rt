@@ -1,4 +1,5 @@
 ghost use Rattle.std.specs.Prelude.{◌≡◌, IfOk, OnOk, List, false, true, [], ◌∷◌};
+ghost use Rattle.std.specs.List.{list_all};
 ghost use Rattle.streams.specs.Streams.{Feed};
 ghost use Rattle.op_base.specs.Columns.{Row as Cells};
 ghost use Rattle.op_join.specs.Joining.{is_short, row_suits, join_suits};
@@ -57,11 +58,17 @@ fn is_short(value: &Value) -> bool
     }
 }
 
+fn are_short(values: &[Value]) -> bool
+    ensures { result ≡ list_all is_short values.now }
+{
+    values.iter().all(|value| is_short(value))
+}
+
 fn suits(row: &Row, width: u32) -> bool
     ensures { result ≡ row_suits width row.now }
 {
     let values = row.as_slice();
-    values.len() == width as usize && values.iter().all(|value| is_short(value))
+    values.len() == width as usize && are_short(values)
 }
 
 /// Feeds a port its next row, or its end after the last.
@@ -167,6 +174,7 @@ fn joined_by_first(
 }
 
 const LEFT: &[&[i64]] = &[&[NULL, 10], &[1, 11], &[1, 12], &[2, 13]];
+
 const RIGHT: &[&[i64]] = &[&[NULL, 20], &[1, 21], &[1, 22], &[3, 23]];
 
 #[test]
