@@ -15,7 +15,7 @@ use Rattle.flow_graph.specs.declared.state.State.{State}
 use Rattle.flow_graph.specs.Forms.{Form, form}
 use Rattle.flow_graph.specs.Operators.{Op, import, dsread, by_row, tsort, remdup, group, join, merge, lookup, changecapture, funnel, funnel_sequence, funnel_sort}
 use Rattle.flow_graph.specs.Shapes.{FitsPorts, KeysDistinct}
-use Rattle.flow_rules.specs.Derive.{with_column, carried, carried_place, hashed_if, modulus_if, first_keys, same_place, placed_in, agrees_in, first_state}
+use Rattle.flow_derive.specs.Derive.{with_column, carried, carried_place, hashed_if, modulus_if, first_keys, same_place, placed_in, agrees_in, first_state}
 use Rattle.flow_rules.specs.Needs.{first_place, part_if, keyed_needs, needs, is_entire, same_way, begins_with, meets, missed, route_needs, route_missed}
 use Rattle.flow_rules.specs.declared.need.Need.{Need}
 use Rattle.flow_rules.specs.declared.need.Need.TheVariants as part

@@ -14,7 +14,7 @@ use Rattle.ds_place.specs.declared.place.Place.{Place}
 use Rattle.ds_place.specs.declared.place.Place.TheVariants.{Hash, Modulus}
 use Rattle.flow_graph.specs.declared.state.Spot.{Spot}
 use Rattle.flow_graph.specs.declared.state.State.{State}
-use Rattle.flow_rules.specs.Derive.{kept_place, passed_state, all_at_place, carried_place, common_place, declared_state, first_keys, first_state, key_places, places, read_state, refined, routed_state, same_place, solo_state, sorted_state}
+use Rattle.flow_derive.specs.Derive.{kept_place, passed_state, all_at_place, carried_place, common_place, declared_state, first_keys, first_state, key_places, places, read_state, refined, routed_state, same_place, solo_state, sorted_state}
 use Rattle.flow_rules.specs.Needs.{missed, route_missed}
 use Rattle.flow_rules.specs.Soundness.{Accepted, Derives, Keeps, Sound}
 use Rattle.op_base.specs.Columns.{Passing, everything, only, IsIn, Lies, Row, pairs_of}

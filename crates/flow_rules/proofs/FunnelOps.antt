@@ -13,7 +13,7 @@ use Rattle.flow_graph.specs.States.{AllHold, AgreeIf, Holds, LiesAt}
 use Rattle.ds_place.specs.declared.place.Place.TheVariants.{Hash, Modulus}
 use Rattle.flow_graph.specs.declared.state.Spot.{Spot}
 use Rattle.flow_graph.specs.declared.state.State.{State}
-use Rattle.flow_rules.specs.Derive.{agree_sets, all_at_place, both_sets, common_place, if_common, more, places, same_list, same_place}
+use Rattle.flow_derive.specs.Derive.{agree_sets, all_at_place, both_sets, common_place, if_common, more, places, same_list, same_place}
 use Rattle.op_base.specs.Columns.{IsIn, Lies, Row}
 use Rattle.op_base.specs.Feeds.{has_some}
 use Rattle.op_base.specs.Keyed.{arranged}

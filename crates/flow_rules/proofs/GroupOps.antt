@@ -20,7 +20,7 @@ use Rattle.flow_graph.specs.States.{AgreeIf, Common, Holds, LiesAt}
 use Rattle.ds_place.specs.declared.place.Place.TheVariants.{Hash, Modulus}
 use Rattle.flow_graph.specs.declared.state.Spot.{Spot}
 use Rattle.flow_graph.specs.declared.state.State.{State}
-use Rattle.flow_rules.specs.Derive.{agrees_in, carried, carried_agree, carried_place, first_keys, group_agree, grouped_state, placed_in}
+use Rattle.flow_derive.specs.Derive.{agrees_in, carried, carried_agree, carried_place, first_keys, group_agree, grouped_state, placed_in}
 use Rattle.op_base.specs.Columns.{Pairs, Row, pairs_of}
 use Rattle.op_base.specs.Faults.{fault_cmp, kind_number}
 use Rattle.op_base.specs.Keyed.{for_values, in_order, keys_in, same_vals, seen, subs}

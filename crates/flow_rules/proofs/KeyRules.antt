@@ -8,7 +8,7 @@ use Rattle.ds_schema.specs.declared.key.Key.{Key}
 use Rattle.ds_value.specs.declared.value.Value.{Value}
 use Rattle.ds_value.specs.declared.value.Value.TheVariants.{Int}
 use Rattle.flow_graph.specs.Shapes.{MergeShape}
-use Rattle.flow_rules.specs.Derive.{carried, first_keys}
+use Rattle.flow_derive.specs.Derive.{carried, first_keys}
 use Rattle.op_base.specs.Columns.{Lies, Row, all_columns, no_row, pairs_of}
 use Rattle.op_base.specs.Keyed.{get_keys, same_vals}
 use Rattle.op_base.specs.Lists.{AllEmpty}

@@ -14,8 +14,6 @@ pub mod PlaceFits
 pub mod Acceptance
 pub mod FlowAll
 pub mod CodeSteps
-pub mod Settled
-pub mod KeyLists
 pub mod Ends
 pub mod LawProofs
 pub mod Wrong
@@ -23,6 +21,5 @@ pub mod StateExamples
 pub mod FlowExamples
 pub mod VerdictLaws
 pub mod OneVerdict
-pub mod Fills
 pub mod Refusals
 pub mod Routing

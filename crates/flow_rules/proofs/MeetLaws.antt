@@ -12,7 +12,7 @@ use Rattle.flow_graph.specs.States.{AllHold, AgreeIf, Common, Holds, LiesAt}
 use Rattle.ds_place.specs.declared.place.Place.TheVariants.{Hash, Modulus}
 use Rattle.flow_graph.specs.declared.state.Spot.{Spot}
 use Rattle.flow_graph.specs.declared.state.State.{State}
-use Rattle.flow_rules.specs.Derive.{agrees_in, all_agree_in, all_at_place, carried, carried_place, common_place, first_keys, hashed_if, key_places, keyed_state, modulus_if, placed_in, same_place, with_column}
+use Rattle.flow_derive.specs.Derive.{agrees_in, all_agree_in, all_at_place, carried, carried_place, common_place, first_keys, hashed_if, key_places, keyed_state, modulus_if, placed_in, same_place, with_column}
 use Rattle.op_base.specs.Columns.{Pairs, Row, column_in, is_in, lies, pairs_of}
 use Rattle.op_base.specs.Keyed.{for_values, in_order, keys_in, same_vals, subs}
 use Rattle.op_base.specs.Lists.{AllEmpty, IsArranged, OneHolds, joined}

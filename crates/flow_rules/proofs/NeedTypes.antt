@@ -8,7 +8,7 @@ use Rattle.flow_graph.specs.Operators.{Op, by_row, changecapture, dsread, funnel
 use Rattle.flow_graph.specs.declared.route.Route.{Route}
 use Rattle.flow_graph.specs.declared.state.Spot.{Spot}
 use Rattle.flow_graph.specs.declared.state.State.{State}
-use Rattle.flow_rules.specs.Derive.{agrees_in, carried_place, derived, first_keys, placed_in}
+use Rattle.flow_derive.specs.Derive.{agrees_in, carried_place, derived, first_keys, placed_in}
 use Rattle.op_base.specs.Columns.{pairs_of}
 use Rattle.op_base.specs.Meanings.{Looking}
 use Rattle.flow_graph.specs.declared.state.Spot.TheVariants as spot

@@ -1,5 +1,5 @@
 -- A flow has one verdict: the equations of its states have one solution.
-use Rattle.std.proofs.Common.{◌≡◌, ℕ, zero, suc, ◌+◌, ◌<◌, ◌==◌, Bool, true, false, cond, ◌⊎◌, inl, inr, List, [], ◌∷◌, ◌++◌, map, refl, sym, ap, ap₂, ◌∙◌, subst, arith, length, get_or, ext_get_or}
+use Rattle.std.proofs.Common.{◌≡◌, ℕ, ◌+◌, ◌<◌, ◌==◌, Bool, true, false, ◌⊎◌, inl, inr, List, [], ◌∷◌, ◌++◌, map, refl, sym, ap, ap₂, ◌∙◌, subst, arith, length, ext_get_or}
 use Rattle.std.specs.Prelude.{nat_lt}
 use Rattle.std.specs.List.{AllByRecursion}
 use Rattle.std.proofs.lemmas.Bool.Decides.{nat_tests}
@@ -8,12 +8,12 @@ use Rattle.flow_graph.specs.declared.state.State.{State}
 use Rattle.flow_graph.specs.declared.route.Choice.{Choice}
 use Rattle.flow_graph.specs.Charts.{Chart, link_at, width_at, links_into, links_from, into_seq, form_at}
 use Rattle.flow_rules.specs.declared.need.Need.{Need}
-use Rattle.flow_rules.specs.declared.verdict.Verdict.{Verdict}
 use Rattle.flow_rules.specs.declared.verdict.Verdict.TheVariants.{Accepted, Refused}
-use Rattle.flow_rules.specs.Derive.{derived, refined, routed_state, sorted_state, first_state}
+use Rattle.flow_derive.specs.Derive.{derived, refined, routed_state, sorted_state, first_state}
 use Rattle.flow_graph.specs.FlowShape.{ForwardOrder, CoversLinks}
-use Rattle.flow_rules.specs.Verdicts.{AreStates, IsAccepted, IsRefused, IsVerdict, OneVerdict, state_at, choice_at, link_state, link_misses}
-use Rattle.flow_rules.proofs.VerdictLaws.{marked}
+use Rattle.flow_derive.specs.LinkStates.{AreStates, state_at, choice_at, link_state}
+use Rattle.flow_rules.specs.Verdicts.{IsAccepted, IsRefused, OneVerdict, link_misses}
+use Rattle.flow_derive.proofs.Fills.{marked}
 
 in_append : (l : ℕ) (xs ys : List ℕ) → IsIn l (xs ++ ys) → IsIn l xs ⊎ IsIn l ys
 in_append l [] ys i = inr i

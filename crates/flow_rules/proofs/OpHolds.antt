@@ -11,7 +11,7 @@ use Rattle.flow_graph.specs.Runs.{FitsDegree, Funnelled, slice}
 use Rattle.flow_graph.specs.Shapes.{AllWide, HasPort, IsShaped, SameWays}
 use Rattle.flow_graph.specs.States.{AllHold, Holds}
 use Rattle.flow_graph.specs.declared.state.State.{State}
-use Rattle.flow_rules.specs.Derive.{first_keys, read_state}
+use Rattle.flow_derive.specs.Derive.{first_keys, read_state}
 use Rattle.op_base.specs.Columns.{Row}
 use Rattle.op_base.specs.Keyed.{arranged, by_key, for_values, get_keys}
 use Rattle.op_base.specs.Lists.{joined}

@@ -11,7 +11,7 @@ use Rattle.flow_graph.specs.Shapes.{Carries}
 use Rattle.flow_graph.specs.States.{LiesAt}
 use Rattle.ds_place.specs.declared.place.Place.TheVariants.{Hash, Modulus}
 use Rattle.flow_graph.specs.declared.state.Spot.{Spot}
-use Rattle.flow_rules.specs.Derive.{carried, carried_place, first_keys, hashed_if, modulus_if, with_column}
+use Rattle.flow_derive.specs.Derive.{carried, carried_place, first_keys, hashed_if, modulus_if, with_column}
 use Rattle.op_base.specs.Columns.{Pairs, Row, column_in, pairs_of}
 use Rattle.flow_graph.proofs.Holders.{none_here}
 use Rattle.flow_graph.proofs.StateLaws.{modulus_below, placed_solo}

@@ -11,7 +11,7 @@ use Rattle.ds_place.specs.declared.place.Place.TheVariants.{Hash, Modulus}
 use Rattle.flow_graph.specs.declared.route.Route.{Route}
 use Rattle.flow_graph.specs.declared.state.Spot.{Spot}
 use Rattle.flow_graph.specs.declared.state.State.{State}
-use Rattle.flow_rules.specs.Derive.{kept_place, passed_state, all_at_place, carried, carried_place, common_place, declared_state, first_keys, first_state, hashed_if, key_places, modulus_if, places, read_state, routed_state, same_place, solo_state, sorted_state, with_column}
+use Rattle.flow_derive.specs.Derive.{kept_place, passed_state, all_at_place, carried, carried_place, common_place, declared_state, first_keys, first_state, hashed_if, key_places, modulus_if, places, read_state, routed_state, same_place, solo_state, sorted_state, with_column}
 use Rattle.op_base.specs.Columns.{Passing, everything, only, Lies, Pairs, all_columns, column_in, pairs_of}
 use Rattle.op_base.specs.Keyed.{get_keys}
 use Rattle.flow_graph.proofs.PassingColumns.{grow, inside, lies_fit, pairs_fit, range_fit}

@@ -17,7 +17,7 @@ use Rattle.ds_place.specs.declared.place.Place.TheVariants.{Hash, Modulus}
 use Rattle.flow_graph.specs.declared.state.Spot.{Spot}
 use Rattle.flow_graph.specs.declared.state.State.{State}
 use Rattle.flow_graph.specs.Columns.{set_of}
-use Rattle.flow_rules.specs.Derive.{filled, filled_agree, or_filled, place_columns, refined, regain, regained_if, regained_set, set_if}
+use Rattle.flow_derive.specs.Derive.{filled, filled_agree, or_filled, place_columns, refined, regain, regained_if, regained_set, set_if}
 use Rattle.op_base.specs.Columns.{IsIn, Lies, Row, lies}
 use Rattle.op_base.specs.Lists.{put_at, with_rank}
 use Rattle.flow_graph.proofs.PartLaws.{PlacedBy, agree_all, regain_agree}

@@ -6,12 +6,13 @@ use Rattle.std.specs.List.{range_with_len}
 use Rattle.flow_graph.specs.Charts.{Chart, all_links, form_at, link_at, links_into}
 use Rattle.flow_graph.specs.declared.flow.LinkSpec.{LinkSpec}
 use Rattle.flow_graph.specs.declared.route.Choice.{Choice}
-use Rattle.flow_rules.specs.declared.outline.Outline.{Outline}
-use Rattle.flow_rules.specs.Outlines.{outline_form, passes_at}
+use Rattle.flow_derive.specs.declared.outline.Outline.{Outline}
+use Rattle.flow_derive.specs.Outlines.{outline_form, passes_at}
 use Rattle.flow_graph.specs.declared.state.State.{State}
 use Rattle.flow_rules.specs.declared.need.Need.{Need}
 use Rattle.flow_rules.specs.Needs.{missed, route_missed}
-use Rattle.flow_rules.specs.Verdicts.{AreStates, IsAccepted, IsRefused, NoneMisses, choice_at, first_of, first_with, link_misses, output_at, state_at, with_state}
+use Rattle.flow_derive.specs.LinkStates.{AreStates, choice_at, output_at, state_at}
+use Rattle.flow_rules.specs.Verdicts.{IsAccepted, IsRefused, NoneMisses, first_of, first_with, link_misses, with_state}
 
 first_state_of : (s : State) (parts : List Need) → first_of (with_state s parts) ≡ first_with (first_of parts) s
 first_state_of s [] = refl

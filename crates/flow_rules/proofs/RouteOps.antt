@@ -16,7 +16,7 @@ use Rattle.ds_place.specs.declared.place.Place.TheVariants.{Hash, Modulus}
 use Rattle.flow_graph.specs.declared.route.Route.{Route}
 use Rattle.flow_graph.specs.declared.state.Spot.{Spot}
 use Rattle.flow_graph.specs.declared.state.State.{State}
-use Rattle.flow_rules.specs.Derive.{merged_sort, more, routed_state, solo_sort}
+use Rattle.flow_derive.specs.Derive.{merged_sort, more, routed_state, solo_sort}
 use Rattle.op_base.specs.Columns.{Row}
 use Rattle.op_base.specs.Lists.{Interleaves, IsArranged, Merges, in_turn, joined}
 use Rattle.flow_graph.proofs.Lanes.{from_one, sent_routed}

@@ -1,5 +1,5 @@
 -- Whether each link is routed, link by link.
-use Rattle.std.proofs.Common.{Bool, IsTrue, arith, false, inl, inr, length, subst, sym, true, ℕ, ◌+◌, ◌<◌, ◌≤◌, ◌==◌, ◌≡◌, ◌↔◌, ◌⊎◌, ◌∙◌}
+use Rattle.std.proofs.Common.{arith, false, inl, inr, length, subst, sym, true, ℕ, ◌+◌, ◌<◌, ◌≤◌, ◌≡◌, ◌⊎◌}
 use Rattle.flow_graph.specs.Charts.{Chart}
 use Rattle.flow_rules.specs.Verdicts.{IsRouted, routed_at}
 use Rattle.flow_rules.proofs.Refusals.{split}

@@ -15,7 +15,7 @@ use Rattle.flow_graph.specs.States.{AgreeIf, Common, Holds, HoldsIn, LiesAt}
 use Rattle.ds_place.specs.declared.place.Place.TheVariants.{Hash, Modulus}
 use Rattle.flow_graph.specs.declared.state.Spot.{Spot}
 use Rattle.flow_graph.specs.declared.state.State.{State}
-use Rattle.flow_rules.specs.Derive.{carried, carried_agree, carried_place, carried_sort, kept_place, passed_state, hashed_if, key_if, modulus_if}
+use Rattle.flow_derive.specs.Derive.{carried, carried_agree, carried_place, carried_sort, kept_place, passed_state, hashed_if, key_if, modulus_if}
 use Rattle.op_base.specs.Columns.{Passing, everything, only, Lies, Pairs, Row, all_columns, column_in, no_row, pairs_of}
 use Rattle.op_base.specs.Lists.{IsArranged, OneHolds, joined}
 use Rattle.op_base.specs.Meanings.{Looking, if_continues, if_rejected, looked_fault, looked_row}

@@ -15,7 +15,7 @@ use Rattle.flow_graph.specs.States.{AgreeIf, Common, Holds, LiesAt}
 use Rattle.ds_place.specs.declared.place.Place.{Place}
 use Rattle.ds_place.specs.declared.place.Place.TheVariants.{Hash, Modulus}
 use Rattle.flow_graph.specs.declared.state.State.{State}
-use Rattle.flow_rules.specs.Derive.{agrees_in, declared_state, read_state, solo_state, sorted_state}
+use Rattle.flow_derive.specs.Derive.{agrees_in, declared_state, read_state, solo_state, sorted_state}
 use Rattle.op_base.specs.Columns.{Lies, Row}
 use Rattle.op_base.specs.Keyed.{arranged, by_key}
 use Rattle.op_base.specs.Lists.{IsArranged, joined}

@@ -9,7 +9,7 @@ use Rattle.flow_graph.specs.declared.state.Spot.TheVariants as spot
 use Rattle.flow_graph.specs.declared.state.State.{State}
 use Rattle.flow_graph.specs.Forms.{dsread, by_row, tsort, remdup, group, join, merge, lookup, funnel_sequence, funnel_sort}
 use Rattle.flow_rules.specs.declared.need.Need.TheVariants.{NotEntire, SamePlace, Agree, Sorted, MergeSort, Reference}
-use Rattle.flow_rules.specs.Derive.{derived, routed_state, refined, sorted_state}
+use Rattle.flow_derive.specs.Derive.{derived, routed_state, refined, sorted_state}
 use Rattle.flow_rules.specs.Needs.{missed, route_missed}
 
 abbrev up : ℕ → List Key

@@ -1,34 +1,22 @@
 -- An accepted verdict gives what the law of flows asks of states and choices.
-use Rattle.std.proofs.Common.{◌≡◌, ℕ, zero, suc, ◌+◌, ◌<◌, ◌==◌, Bool, true, false, cond, inl, inr, List, [], ◌∷◌, ◌++◌, map, filter, refl, sym, ap, ◌∙◌, subst, arith, length, get_or}
+use Rattle.std.proofs.Common.{◌≡◌, ℕ, zero, suc, ◌+◌, ◌<◌, Bool, inl, inr, List, [], ◌∷◌, map, refl, sym, ap, ◌∙◌, subst, arith, length, get_or}
 use Rattle.std.specs.List.{AllByRecursion, range_with_len}
-use Rattle.std.proofs.lemmas.Bool.Decides.{nat_tests}
 use Rattle.op_base.specs.Columns.{IsIn}
 use Rattle.flow_graph.specs.declared.route.Choice.{Choice}
 use Rattle.flow_graph.specs.declared.state.State.{State}
-use Rattle.flow_graph.specs.Charts.{Chart, link_at, all_links, width_at, links_into, links_from, into_seq, form_at}
-use Rattle.flow_graph.specs.Forms.{Form, form}
+use Rattle.flow_graph.specs.Charts.{Chart, link_at, width_at, links_into, links_from, into_seq, form_at}
+use Rattle.flow_graph.specs.Forms.{form}
 use Rattle.flow_graph.specs.Operators.{Op}
 use Rattle.flow_graph.specs.Runs.{Out, Node, InsertedFrom}
 use Rattle.flow_rules.specs.declared.need.Need.{Need}
-use Rattle.flow_rules.specs.Derive.{derived, refined, routed_state, sorted_state}
+use Rattle.flow_derive.specs.Derive.{derived, refined, routed_state, sorted_state}
 use Rattle.flow_rules.specs.Needs.{missed, route_missed}
 use Rattle.flow_rules.specs.Soundness.{Derives, Accepted, output_state}
 use Rattle.flow_graph.specs.FlowShape.{PortsInOrder}
-use Rattle.flow_rules.specs.Verdicts.{IsAccepted, AreStates, FormsAre, state_at, choice_at, output_at, link_state, with_state, link_misses, out_at, node_at, nodes_of}
+use Rattle.flow_derive.specs.LinkStates.{AreStates, state_at, choice_at, output_at}
+use Rattle.flow_rules.specs.Verdicts.{IsAccepted, FormsAre, with_state, out_at, node_at, nodes_of}
 use Rattle.op_base.proofs.KeyValues.{both_nothing, map_nothing}
-
--- what a filter of numbers by one of their marks leaves
-pub marked : (f : ℕ → ℕ) (o a k : ℕ) → AllByRecursion (λ l. (f l ≡ o) × (l < a + k)) (filter (λ l. f l == o) (range_with_len a k))
-marked f o a zero = tt
-marked f o a (suc k) = go (f a == o) refl (wider (filter (λ l. f l == o) (range_with_len (a + 1) k)) (marked f o (a + 1) k))
-  where
-    wider : (ls : List ℕ) → AllByRecursion (λ l. (f l ≡ o) × (l < (a + 1) + k)) ls → AllByRecursion (λ l. (f l ≡ o) × (l < a + suc k)) ls
-    wider [] h = tt
-    wider (l ∷ ls) h = ((h.0.0, let m = h.0.1 in omega arith), wider ls h.1)
-
-    go : (b : Bool) → (f a == o) ≡ b → AllByRecursion (λ l. (f l ≡ o) × (l < a + suc k)) (filter (λ l. f l == o) (range_with_len (a + 1) k)) → AllByRecursion (λ l. (f l ≡ o) × (l < a + suc k)) (cond b (a ∷ filter (λ l. f l == o) (range_with_len (a + 1) k)) (filter (λ l. f l == o) (range_with_len (a + 1) k)))
-    go true e h = ((grind (arith, nat_tests), omega arith), h)
-    go false e h = h
+use Rattle.flow_derive.proofs.Fills.{marked}
 
 marked_at : (P : ℕ → Type 0) (ls : List ℕ) (i : ℕ) → i < length ls → AllByRecursion P ls → P (get_or ls i 0)
 marked_at P [] i l h = absurd (omega arith)

@@ -16,7 +16,7 @@ use Rattle.flow_graph.specs.Parts.{Agree, Bag}
 use Rattle.flow_graph.specs.Runs.{Out, Node, Lists, Means, Gives, Arrives, FitsDegree, Forward, InsertedFrom, arranged_if, faults_on, slice, run_faults, meant_faults}
 use Rattle.flow_graph.specs.Shapes.{IsShaped, HasPort, FitsPorts, KeysDistinct, Wide, AllWide, SpotFits}
 use Rattle.flow_graph.specs.States.{Holds, AllHold}
-use Rattle.flow_rules.specs.Derive.{derived, refined, regain, routed_state, sorted_state}
+use Rattle.flow_derive.specs.Derive.{derived, refined, regain, routed_state, sorted_state}
 use Rattle.flow_rules.specs.Needs.{missed, route_missed}
 use Rattle.flow_rules.specs.Soundness.{Sound, Keeps}
 

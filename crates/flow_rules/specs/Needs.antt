@@ -13,7 +13,7 @@ use Rattle.flow_graph.specs.declared.route.Route.TheVariants as route
 use Rattle.flow_graph.specs.Forms.{Form, import, dsread, by_row, tsort, remdup, group, join, merge, lookup, changecapture, funnel, funnel_sequence, funnel_sort}
 use Rattle.flow_rules.specs.declared.need.Need.{Need}
 use Rattle.flow_rules.specs.declared.need.Need.TheVariants.{NotEntire, Placed, Colocated, SamePlace, Agree, Sorted, MergeSort, Reference}
-use Rattle.flow_rules.specs.Derive.{placed_in, agrees_in, same_place, carried_place, first_state}
+use Rattle.flow_derive.specs.Derive.{placed_in, agrees_in, same_place, carried_place, first_state}
 
 -- the keys of an operator on input i
 abbrev pub input_keys : Form → ℕ → List Key

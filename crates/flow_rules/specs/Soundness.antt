@@ -9,7 +9,7 @@ use Rattle.flow_graph.specs.Forms.{form}
 use Rattle.flow_graph.specs.Runs.{Out, Node, Lists, Means, Runs, Forward, InsertedFrom, FitsShape, arranged_if}
 use Rattle.flow_graph.specs.Shapes.{Wide, SpotFits}
 use Rattle.flow_graph.specs.States.{Holds}
-use Rattle.flow_rules.specs.Derive.{derived, refined, routed_state, sorted_state}
+use Rattle.flow_derive.specs.Derive.{derived, refined, routed_state, sorted_state}
 use Rattle.flow_rules.specs.Needs.{missed, route_missed}
 
 -- the state of what an operator puts on a link, before the route

@@ -1,8 +1,6 @@
 -- The verdict on a shaped flow: the states and choices of all links, or the first part of a need that a link misses.
-use Rattle.std.specs.Prelude.{◌≡◌, ℕ, ◌<◌, ◌==◌, ◌&&◌, ◌||◌, is_some, Bool, true, false, List, [], ◌∷◌, ◌++◌, length, map, get_or, Option, Some, None, ⊤}
+use Rattle.std.specs.Prelude.{◌≡◌, ℕ, ◌<◌, ◌&&◌, ◌||◌, is_some, Bool, true, false, List, [], ◌∷◌, ◌++◌, length, map, get_or, Option, Some, None}
 use Rattle.ds_schema.specs.declared.key.Key.{Key}
-use Rattle.flow_graph.specs.declared.route.Route.{Route}
-use Rattle.flow_graph.specs.declared.route.Route.TheVariants as route
 use Rattle.flow_graph.specs.declared.route.Choice.{Choice}
 use Rattle.flow_graph.specs.declared.state.State.{State}
 use Rattle.flow_graph.specs.Charts.{Chart, link_at, all_links, width_at, links_into, links_from, op_at, is_seq, into_seq, form_at}
@@ -10,22 +8,14 @@ use Rattle.flow_graph.specs.FlowShape.{ForwardOrder, CoversLinks, PortsInOrder}
 use Rattle.flow_graph.specs.Forms.{form, sort_key}
 use Rattle.flow_graph.specs.Operators.{Op}
 use Rattle.flow_graph.specs.Runs.{Out, Node, InsertedFrom}
-use Rattle.op_base.specs.Columns.{IsIn, Lies}
+use Rattle.op_base.specs.Columns.{IsIn}
 use Rattle.std.specs.List.{AllByRecursion}
 use Rattle.flow_rules.specs.Soundness.{Derives, Accepted as Meets}
 use Rattle.flow_rules.specs.declared.need.Need.{Need}
 use Rattle.flow_rules.specs.declared.verdict.Verdict.{Verdict}
 use Rattle.flow_rules.specs.declared.verdict.Verdict.TheVariants.{Accepted, Refused}
-use Rattle.flow_rules.specs.Derive.{derived, refined, routed_state, sorted_state, first_state}
+use Rattle.flow_derive.specs.LinkStates.{choice_at, state_at, output_at, AreStates}
 use Rattle.flow_rules.specs.Needs.{missed, route_missed}
-
-abbrev pub written_or_same : Option Route → Route
-written_or_same None = route.Same
-written_or_same (Some r) = r
-
--- what is chosen for a link: the written route, or same, and no sort
-abbrev pub choice_at : Chart → ℕ → Choice
-choice_at c l = record { method = written_or_same (get_or c.written l None); sort = None }
 
 -- an input that needs no order of its rows
 abbrev pub unsorted : Option (List Key) → Bool
@@ -40,24 +30,6 @@ routed_at c l = is_some (get_or c.written l None) || (is_seq (op_at c (link_at c
 -- A stage: flows where no route and no sort has to be found. Of others `choice_at` isn't yet what is chosen.
 abbrev pub IsRouted : Chart → Type 0
 IsRouted c = (l : ℕ) → l < length c.flow.links → routed_at c l ≡ true
-
-abbrev pub state_at : List State → ℕ → State
-state_at states l = get_or states l (first_state [])
-
--- the state of what a link's producer puts on it, by the states of that one's inputs
-abbrev pub output_at : Bool → Chart → List State → ℕ → State
-output_at regains c states l =
-    refined regains (width_at c l) (derived (form_at c (link_at c l).from) (link_at c l).out (map (state_at states) (links_into c (link_at c l).from)))
-
--- the state of a link, by those of its producer's inputs
-abbrev pub link_state : Bool → Chart → List State → ℕ → State
-link_state regains c states l =
-    refined regains (width_at c l) (sorted_state (choice_at c l).sort (routed_state (into_seq c l) (choice_at c l).method (output_at regains c states l)))
-
--- the states of all links: each is the one that its producer's inputs give
-pub record AreStates (regains : Bool) (c : Chart) (states : List State) : Type 0 where
-  pub each : length states ≡ length c.flow.links
-  pub derived : (l : ℕ) → l < length c.flow.links → state_at states l ≡ link_state regains c states l
 
 abbrev pub first_of : {X : Type 0} → List X → Option X
 first_of [] = None

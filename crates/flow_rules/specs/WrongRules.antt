@@ -13,7 +13,7 @@ use Rattle.flow_graph.specs.Operators.{remdup, join, result}
 use Rattle.flow_graph.specs.Runs.{Arrives, slice}
 use Rattle.flow_graph.specs.States.{Holds}
 use Rattle.flow_rules.specs.declared.need.Need.TheVariants.{NotEntire, Placed, Colocated, Sorted}
-use Rattle.flow_rules.specs.Derive.{derived, solo_sort, place_columns}
+use Rattle.flow_derive.specs.Derive.{derived, solo_sort, place_columns}
 use Rattle.flow_rules.specs.Needs.{meets}
 
 abbrev pub meets_alone : State → Rattle.flow_rules.specs.declared.need.Need.Need → Type 0

@@ -1,15 +1,16 @@
 ghost use Rattle.std.specs.Prelude.{◌≡◌, ◌<◌, length, map, IfOk, MatchOption, false};
 ghost use Rattle.flow_graph.specs.Charts.{all_links, form_at, link_at, links_into};
 ghost use Rattle.flow_rules.specs.Needs.{missed, route_missed};
-ghost use Rattle.flow_rules.specs.Verdicts.{IsRouted, IsVerdict, NoneMisses, AreStates, choice_at, first_of, first_with, with_state, state_at, output_at, link_misses};
+ghost use Rattle.flow_derive.specs.LinkStates.{AreStates, choice_at, state_at, output_at};
+ghost use Rattle.flow_rules.specs.Verdicts.{IsRouted, IsVerdict, NoneMisses, first_of, first_with, with_state, link_misses};
 
 use crate::needs::{missed, route_missed};
-use crate::outline::outline_at;
-use crate::states::{
-    all_states, choice_at, link_at, link_count, links_into, output_at, state_at, states_at,
-};
 use crate::{Need, Verdict};
 use ds_value::{Items, NoMemory};
+use flow_derive::{
+    all_states, choice_at, link_at, link_count, links_into, outline_at, output_at, state_at,
+    states_at,
+};
 use flow_graph::{Choice, Shaped, State};
 use std::alloc::Global;
 

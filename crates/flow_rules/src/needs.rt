@@ -5,18 +5,17 @@ ghost use Rattle.ds_schema.specs.Rows.{cols};
 ghost use Rattle.flow_graph.specs.Charts.{funnel_form};
 ghost use Rattle.flow_graph.specs.declared.state.Spot.{Spot};
 ghost use Rattle.flow_rules.specs.declared.need.Need.TheVariants.{NotEntire, Placed, Colocated, SamePlace, Agree, Sorted, Reference};
-ghost use Rattle.flow_rules.specs.Derive.{first_state, placed_in, agrees_in};
-ghost use Rattle.flow_rules.specs.Needs.{input_keys, first_place, part_if, keyed_needs, needs, is_entire, meets, missed, route_missed};
-ghost use Rattle.flow_rules.specs.Outlines.{outline_form};
+ghost use Rattle.flow_derive.specs.Derive.{first_state, placed_in, agrees_in};
+ghost use Rattle.flow_rules.specs.Needs.{input_keys, first_place, part_if, keyed_needs, needs, is_entire, begins_with, meets, missed, route_missed};
+ghost use Rattle.flow_derive.specs.Outlines.{outline_form};
 ghost use Rattle.flow_rules.specs.Verdicts.{first_of};
 
 use crate::Need;
-use crate::outline::{Outline, keys_of};
-use crate::places::{agrees_in, key_place, placed_in, same_place};
-use crate::rows::{first_state, no_state};
-use crate::sorts::{begins_with, no_keys};
 use ds_schema::KeyList;
 use ds_value::{Copied, NoMemory};
+use flow_derive::{
+    Outline, agrees_in, first_state, key_place, keys_of, no_keys, no_state, placed_in, same_place,
+};
 use flow_graph::{Route, Spot, State, columns_of};
 use std::alloc::Global;
 
@@ -248,6 +247,23 @@ fn is_colocated(alloc: Global, keys: &KeyList, state: &State) -> Result<bool, No
         return Ok(true);
     }
     does_agree(alloc, keys, state)
+}
+
+/// Whether a sort list begins with keys: the same columns in the same order and directions.
+#[tactic(auto, using(crate::proofs::CodeSteps::begins_step, crate::proofs::CodeSteps::begins_short))]
+fn begins_with(keys: &KeyList, sort: &KeyList) -> bool
+    ensures { result ≡ begins_with keys.now sort.now }
+{
+    let found = sort.as_slice();
+    for (i, key) in keys.as_slice().iter().enumerate() {
+        if i >= found.len() {
+            return false;
+        }
+        if key.col != found[i].col || key.desc != found[i].desc {
+            return false;
+        }
+    }
+    true
 }
 
 /// Whether a state meets a part of a need, on an input over whose columns input 0 lies at `first`.

@@ -2,12 +2,11 @@ ghost use Rattle.std.specs.Prelude.{◌≡◌, ◌<◌, ◌↔◌, ℕ, length, 
 ghost use Rattle.op_base.specs.Columns.{Passing};
 ghost use Rattle.flow_graph.specs.Charts.{op_at, link_at, is_seq};
 ghost use Rattle.flow_graph.specs.Forms.{sort_key};
-ghost use Rattle.flow_rules.specs.Outlines.{outline_form};
+ghost use Rattle.flow_derive.specs.Outlines.{outline_form};
 ghost use Rattle.flow_rules.specs.Verdicts.{IsRouted, routed_at, unsorted};
 
-use crate::outline::{Outline, keys_of, outline_at};
-use crate::states::{into_seq, link_at, link_count};
 use ds_value::NoMemory;
+use flow_derive::{Outline, into_seq, keys_of, link_at, link_count, outline_at};
 use flow_graph::{Mark, Shaped};
 use std::alloc::Global;
 

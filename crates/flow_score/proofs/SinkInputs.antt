@@ -7,7 +7,7 @@ use Rattle.flow_graph.specs.declared.op_kind.OpKind.TheVariants as kind
 use Rattle.flow_graph.specs.declared.parts.Stored.{Stored}
 use Rattle.flow_graph.specs.Charts.{Chart, kind_form, op_at, link_at, links_into, keys_at, cols_at, first_width}
 use Rattle.flow_graph.specs.FlowShape.{IsShape, FormPorts}
-use Rattle.flow_rules.proofs.VerdictLaws.{marked}
+use Rattle.flow_derive.proofs.Fills.{marked}
 use Rattle.flow_score.specs.VerdictText.{is_sink, links_to}
 
 -- a sink has one input

@@ -12,7 +12,7 @@ use Rattle.flow_graph.specs.Grades.{grade}
 use Rattle.flow_rules.specs.declared.need.Need.{Need}
 use Rattle.flow_rules.specs.declared.verdict.Verdict.{Verdict}
 use Rattle.flow_rules.specs.declared.verdict.Verdict.TheVariants.{Accepted, Refused}
-use Rattle.flow_rules.specs.Verdicts.{state_at}
+use Rattle.flow_derive.specs.LinkStates.{state_at}
 use Rattle.flow_score.specs.Texts.{state_text, need_text, grade_text}
 
 -- the columns of a link

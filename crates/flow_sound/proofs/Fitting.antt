@@ -23,7 +23,8 @@ use Rattle.flow_graph.specs.RowRules.{ExprsFit, row_rule, sets_of}
 use Rattle.flow_graph.specs.Runs.{FitsShape, Out, RouteFits}
 use Rattle.flow_graph.specs.Shapes.{FitsPorts, HasPort, IsShaped, KeysDistinct, RowShape, Wide}
 use Rattle.flow_graph.proofs.RowShapes.{copy_shape, sink_shape}
-use Rattle.flow_rules.specs.Verdicts.{node_at, written_or_same}
+use Rattle.flow_derive.specs.LinkStates.{written_or_same}
+use Rattle.flow_rules.specs.Verdicts.{node_at}
 use Rattle.op_shape.specs.Options.{first_fields, line_fields, made_or_rejected, output_fields}
 use Rattle.flow_shape.specs.Refusals.{Fits, fields_at, inputs_at, kind_at}
 use Rattle.flow_sound.specs.Fitting.{IsByRow, RowsFit}

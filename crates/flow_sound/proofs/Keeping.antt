@@ -20,7 +20,8 @@ use Rattle.flow_graph.specs.RowRules.{row_rule}
 use Rattle.flow_graph.specs.Runs.{InsertedFrom, Lists, Node, Out}
 use Rattle.flow_rules.specs.Needs.{missed}
 use Rattle.flow_rules.specs.Soundness.{Accepted as MissesNothing, Keeps, Sound}
-use Rattle.flow_rules.specs.Verdicts.{FormsAre, nodes_of, state_at}
+use Rattle.flow_derive.specs.LinkStates.{state_at}
+use Rattle.flow_rules.specs.Verdicts.{FormsAre, nodes_of}
 use Rattle.flow_graph.specs.Parts.{Bag}
 use Rattle.flow_rules.proofs.Acceptance.{needs_met}
 use Rattle.flow_rules.proofs.Ends.{sink_meets}

@@ -8,7 +8,7 @@ use Rattle.flow_graph.specs.FlowShape.{IsShape, ForwardOrder}
 use Rattle.flow_graph.specs.Operators.{Op}
 use Rattle.flow_graph.specs.Runs.{Node, Out, Forward, links}
 use Rattle.flow_rules.specs.Verdicts.{out_at, node_at, nodes_of}
-use Rattle.flow_rules.proofs.VerdictLaws.{marked}
+use Rattle.flow_derive.proofs.Fills.{marked}
 use Rattle.flow_sound.proofs.Members.{all_mapped, at_in, in_all, in_either, in_filter, of_mapped, range_has}
 
 -- a link that leaves an operator, or leads into one

@@ -16,7 +16,8 @@ use Rattle.flow_graph.specs.Operators.{Op}
 use Rattle.flow_graph.specs.Runs.{FitsShape, Lists, Means, Runs, meant_faults, run_faults}
 use Rattle.flow_rules.specs.declared.verdict.Verdict.TheVariants.{Accepted}
 use Rattle.flow_rules.specs.Soundness.{Keeps}
-use Rattle.flow_rules.specs.Verdicts.{FormsAre, IsVerdict, choice_at, nodes_of, state_at}
+use Rattle.flow_derive.specs.LinkStates.{choice_at, state_at}
+use Rattle.flow_rules.specs.Verdicts.{FormsAre, IsVerdict, nodes_of}
 use Rattle.flow_shape.specs.Refusals.{IsShapeOf}
 use Rattle.flow_sound.specs.Kinds.{AreOfKinds, IsExport, first_into}
 

@@ -20,7 +20,8 @@ use Rattle.flow_graph.specs.Operators.{Op, import, by_row, tsort, remdup, result
 use Rattle.flow_graph.specs.RowRules.{if_worked, row_rule}
 use Rattle.flow_graph.specs.Runs.{Lists, Runs, Gives, Delivers, FitsDegree, faults_on, slice}
 use Rattle.flow_graph.proofs.StateLaws.{each_part}
-use Rattle.flow_rules.specs.Verdicts.{choice_at, node_at, out_at}
+use Rattle.flow_derive.specs.LinkStates.{choice_at}
+use Rattle.flow_rules.specs.Verdicts.{node_at, out_at}
 use Rattle.list_run.specs.declared.held.Held.{Held}
 use Rattle.list_run.specs.declared.ran.Ran.{Ran}
 use Rattle.list_run.specs.Found.{found_in}

@@ -7,7 +7,7 @@ use Rattle.streams.proofs.StreamLaws.{eq_true, eq_false}
 use Rattle.op_base.specs.Columns.{IsIn}
 use Rattle.flow_graph.specs.declared.route.Choice.{Choice}
 use Rattle.flow_graph.specs.Charts.{Chart, link_at, all_links, links_into, links_from}
-use Rattle.flow_rules.specs.Verdicts.{choice_at}
+use Rattle.flow_derive.specs.LinkStates.{choice_at}
 use Rattle.list_run.specs.Runnable.{first_into}
 
 -- a member is one whichever value stands for a missing one

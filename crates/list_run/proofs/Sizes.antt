@@ -16,7 +16,7 @@ use Rattle.flow_graph.specs.FlowShape.{IsShape, ForwardOrder}
 use Rattle.flow_graph.specs.Fitting.{FitsFields, KeepsFields, PassesFields}
 use Rattle.flow_graph.specs.RowRules.{row_rule}
 use Rattle.flow_graph.specs.Runs.{arranged_if}
-use Rattle.flow_rules.specs.Verdicts.{choice_at}
+use Rattle.flow_derive.specs.LinkStates.{choice_at}
 use Rattle.list_run.specs.Found.{found_in}
 use Rattle.list_run.specs.Held.{sent_by, sent_from, sent_on, got_on}
 use Rattle.list_run.specs.Made.{made, made_for}

@@ -17,7 +17,7 @@ use Rattle.flow_graph.specs.Charts.{Chart, link_at, links_into, links_from, op_a
 use Rattle.flow_graph.specs.Fitting.{FitsFields}
 use Rattle.flow_graph.specs.FlowShape.{IsShape, ForwardOrder, WrittenFits}
 use Rattle.flow_graph.specs.Runs.{RouteFits}
-use Rattle.flow_rules.specs.Verdicts.{choice_at, written_or_same}
+use Rattle.flow_derive.specs.LinkStates.{choice_at, written_or_same}
 use Rattle.list_run.specs.declared.held.Held.{Held}
 use Rattle.list_run.specs.Found.{Tallies}
 use Rattle.list_run.specs.Held.{CanTurn, MaySend, Steps, found_at, sent_from, sent_on, got_on}

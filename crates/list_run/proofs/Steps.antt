@@ -9,7 +9,7 @@ use Rattle.op_base.specs.Columns.{Row, IsIn}
 use Rattle.flow_graph.specs.declared.op_kind.OpKind.{OpKind}
 use Rattle.flow_graph.specs.declared.parts.OpParts.{OpParts}
 use Rattle.flow_graph.specs.Charts.{Chart, link_at, links_from, op_at, parts_of, into_seq}
-use Rattle.flow_rules.specs.Verdicts.{choice_at}
+use Rattle.flow_derive.specs.LinkStates.{choice_at}
 use Rattle.list_run.specs.declared.held.Held.{Held}
 use Rattle.list_run.specs.Found.{Grows, found_in}
 use Rattle.list_run.specs.Held.{HasRoom, MaySend, Puts, Moves, Steps, found_at, leaves, outputs, sent_by, sent_from, sent_on, got_on, made_at, worked_at}

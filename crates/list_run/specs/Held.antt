@@ -6,7 +6,7 @@ use Rattle.flow_graph.specs.declared.op_kind.OpKind.{OpKind}
 use Rattle.flow_graph.specs.declared.op_kind.OpKind.TheVariants as kind
 use Rattle.flow_graph.specs.declared.parts.OpParts.{OpParts}
 use Rattle.flow_graph.specs.Charts.{Chart, link_at, op_at, keys_at, parts_of, into_seq}
-use Rattle.flow_rules.specs.Verdicts.{choice_at}
+use Rattle.flow_derive.specs.LinkStates.{choice_at}
 use Rattle.list_run.specs.declared.held.Held.{Held}
 use Rattle.list_run.specs.Found.{Grows, found_in}
 use Rattle.list_run.specs.Made.{made, made_for}

@@ -18,7 +18,8 @@ use Rattle.flow_graph.specs.FlowShape.{IsShape}
 use Rattle.flow_graph.specs.Operators.{Op, import, by_row, tsort, remdup, result}
 use Rattle.flow_graph.specs.RowRules.{if_worked, row_rule}
 use Rattle.flow_graph.specs.Runs.{Lists, Runs}
-use Rattle.flow_rules.specs.Verdicts.{choice_at, nodes_of}
+use Rattle.flow_derive.specs.LinkStates.{choice_at}
+use Rattle.flow_rules.specs.Verdicts.{nodes_of}
 use Rattle.list_run.specs.declared.ran.Ran.{Ran}
 use Rattle.list_run.specs.Routed.{Joins}
 

@@ -4,7 +4,7 @@ ghost use Rattle.std.specs.Prelude.{◌≡◌, ◌≢◌, ◌<◌, ◌==◌, ◌
 ghost use Rattle.op_base.specs.Columns.{Row as Cells};
 ghost use Rattle.flow_graph.specs.FlowShape.{IsShape};
 ghost use Rattle.flow_graph.specs.Charts.{all_links, link_at, into_seq, is_seq, op_at, parts_of};
-ghost use Rattle.flow_rules.specs.Verdicts.{choice_at};
+ghost use Rattle.flow_derive.specs.LinkStates.{choice_at};
 ghost use Rattle.list_run.specs.Found.{Tallies};
 ghost use Rattle.list_run.specs.Held.{CanTurn, HasRoom, MaySend, Moves, Puts, Steps, found_at, leaves, leaves_but, made_at, out_on, outputs, place_on, sent_on, worked_at};
 ghost use Rattle.list_run.specs.Routed.{Joins, SuitsRoute};

@@ -22,7 +22,8 @@ use Rattle.flow_graph.specs.Operators.{Op}
 use Rattle.flow_graph.specs.Runs.{meant_faults}
 use Rattle.flow_rules.specs.declared.verdict.Verdict.{Verdict}
 use Rattle.flow_rules.specs.declared.verdict.Verdict.TheVariants.{Accepted, Refused}
-use Rattle.flow_rules.specs.Verdicts.{IsVerdict, state_at, nodes_of}
+use Rattle.flow_derive.specs.LinkStates.{state_at}
+use Rattle.flow_rules.specs.Verdicts.{IsVerdict, nodes_of}
 use Rattle.flow_score.specs.Scores.{IsMismatch}
 use Rattle.flow_score.specs.Seating.{Seats, Crowds}
 use Rattle.op_shape.specs.declared.fault.ShapeWhy.{ShapeWhy}

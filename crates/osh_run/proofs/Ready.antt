@@ -6,7 +6,8 @@ use Rattle.flow_graph.specs.declared.state.State.{State}
 use Rattle.flow_graph.specs.Charts.{Chart}
 use Rattle.flow_rules.specs.declared.verdict.Verdict.TheVariants.{Accepted}
 use Rattle.std.proofs.lemmas.List.FromFn.{length-map-range_with_len}
-use Rattle.flow_rules.specs.Verdicts.{IsVerdict, choice_at}
+use Rattle.flow_derive.specs.LinkStates.{choice_at}
+use Rattle.flow_rules.specs.Verdicts.{IsVerdict}
 use Rattle.flow_score.specs.Seating.{Seats}
 use Rattle.flow_shape.specs.Refusals.{IsShapeOf}
 use Rattle.osh_call.specs.Stages.{IsBuiltShape}

@@ -18,7 +18,7 @@ use Rattle.flow_graph.specs.declared.route.Choice.{Choice}
 use Rattle.flow_graph.specs.Charts.{Chart, all_links, cols_at, first_width, into_seq, is_seq, keys_at, kind_form, link_at, links_from, links_into, no_link, no_op, op_at, width_at}
 use Rattle.flow_graph.specs.Fitting.{FitsFields, KeepsFields, PassesFields}
 use Rattle.flow_graph.specs.FlowShape.{FormPorts, IsShape, WrittenFits}
-use Rattle.flow_rules.specs.Verdicts.{choice_at, written_or_same}
+use Rattle.flow_derive.specs.LinkStates.{choice_at, written_or_same}
 use Rattle.flow_score.specs.Scores.{choice_of, degree, degree_at as score_degree, is_same, no_choice}
 use Rattle.flow_shape.specs.Methods.{written_route}
 use Rattle.op_shape.specs.Options.{first_fields, output_fields}

@@ -12,7 +12,8 @@ use Rattle.flow_graph.specs.Charts.{Chart}
 use Rattle.flow_graph.specs.FlowShape.{IsShape}
 use Rattle.flow_rules.specs.declared.verdict.Verdict.{Verdict}
 use Rattle.flow_rules.specs.declared.verdict.Verdict.TheVariants.{Accepted, Refused}
-use Rattle.flow_rules.specs.Verdicts.{IsVerdict, choice_at}
+use Rattle.flow_derive.specs.LinkStates.{choice_at}
+use Rattle.flow_rules.specs.Verdicts.{IsVerdict}
 use Rattle.flow_score.specs.VerdictText.{IsOf}
 use Rattle.flow_sound.specs.Tallies.{faults_before}
 use Rattle.list_run.specs.declared.ran.Ran.{Ran}

@@ -1,5 +1,6 @@
 use Rattle.std.proofs.Common.{MatchOption, false, subst, sym, ◌∙◌}
-use Rattle.flow_rules.specs.Verdicts.{AreStates, IsVerdict, NoneMisses}
+use Rattle.flow_derive.specs.LinkStates.{AreStates}
+use Rattle.flow_rules.specs.Verdicts.{IsVerdict, NoneMisses}
 use Rattle.flow_rules.proofs.Refusals.{accepted}
 use Rattle.flow_rules.proofs.checker.infer.Goals as goal
 

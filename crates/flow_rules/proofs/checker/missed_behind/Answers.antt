@@ -1,6 +1,6 @@
 use Rattle.std.proofs.Common.{◌∙◌, ap, map}
-use Rattle.flow_rules.specs.Outlines.{passes_at}
-use Rattle.flow_rules.specs.Verdicts.{state_at}
+use Rattle.flow_derive.specs.Outlines.{passes_at}
+use Rattle.flow_derive.specs.LinkStates.{state_at}
 use Rattle.flow_rules.proofs.Refusals.{need_part_is}
 use Rattle.flow_rules.proofs.checker.missed_behind.Goals as goal
 

@@ -1,5 +1,5 @@
 use Rattle.std.proofs.Common.{◌∙◌}
-use Rattle.flow_rules.specs.Outlines.{outline_form}
+use Rattle.flow_derive.specs.Outlines.{outline_form}
 use Rattle.flow_rules.proofs.CodeSteps.{missed_is}
 use Rattle.flow_rules.proofs.needs.missed.Goals as goal
 

@@ -2,7 +2,7 @@ use Rattle.std.proofs.Common.{refl, ap, sym, subst, ◌∙◌, length, set, All,
 use Rattle.flow_graph.specs.declared.route.Choice.{Choice}
 use Rattle.flow_graph.specs.declared.flow.LinkSpec.{LinkSpec}
 use Rattle.flow_graph.specs.Charts.{link_at, into_seq, is_seq, op_at}
-use Rattle.flow_rules.specs.Verdicts.{choice_at}
+use Rattle.flow_derive.specs.LinkStates.{choice_at}
 use Rattle.list_run.specs.Routed.{SuitsRoute, delivered}
 use Rattle.list_run.specs.Runnable.{degree_at}
 use Rattle.list_run.proofs.Links.{choices_long, choice_is}

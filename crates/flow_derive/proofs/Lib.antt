@@ -1,0 +1,4 @@
+pub mod CodeSteps
+pub mod Settled
+pub mod KeyLists
+pub mod Fills

@@ -1,0 +1,4 @@
+pub mod Derive
+pub mod Filling
+pub mod LinkStates
+pub mod Outlines

@@ -1,6 +1,0 @@
-use Rattle.std.proofs.Common.{◌≡◌, ◌++◌, drop}
-use Rattle.flow_rules.specs.Derive.{places}
-use Rattle.flow_rules.proofs.places.places.Given as goal
-
-abbrev pub invariant-loop-state : goal.invariant-loop-state
-invariant-loop-state l = l.found.items ++ places (drop l.state-index l.states) ≡ places l.states
