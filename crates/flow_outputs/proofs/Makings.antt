@@ -23,10 +23,10 @@ pub makes_more : (tells : Type 0) (old mid new : FileMap) (failed now : Bool) (f
 makes_more tells old mid new true now fs f h s = record { ok = λ t e. absurd (grind (arith, e, s.fails refl)); err = λ t e. longer (h.err t refl) }
   where
     longer : MakesSome old mid fs → MakesSome old new (fs ++ f ∷ [])
-    longer m = record { made = m.made; behind = m.behind ++ f ∷ []; all_are = ap (λ xs. xs ++ f ∷ []) m.all_are ∙ append_assoc m.made m.behind (f ∷ []); files = s.kept refl ∙ m.files }
+    longer m = record { made = m.made; failed = m.failed; behind = m.behind ++ f ∷ []; all_are = ap (λ xs. xs ++ f ∷ []) m.all_are ∙ append_assoc m.made (m.failed ∷ m.behind) (f ∷ []); files = s.kept refl ∙ m.files }
 makes_more tells old mid new false now fs f h s = record {
   ok = λ t e. s.made t refl e ∙ ap (λ m. with_file m (f.0) (f.1)) (h.ok t refl) ∙ sym (with_more old fs f);
-  err = λ t e. record { made = fs; behind = f ∷ []; all_are = refl; files = s.stays refl e ∙ h.ok t refl };
+  err = λ t e. record { made = fs; failed = f; behind = []; all_are = refl; files = s.stays refl e ∙ h.ok t refl };
 }
 
 pub makes_next : {X : Type 0} (file : X → NamedFile) (tells : Type 0) (old mid new : FileMap) (failed now : Bool) (xs : List X) (x : X) → Makes tells old mid failed (map file xs) → Step tells mid new failed now (file x) → Makes tells old new now (map file (xs ++ x ∷ []))

@@ -19,11 +19,12 @@ name_or_none (Some name) = name
 abbrev pub file_from : Option (List ℕ) → List ℕ → NamedFile
 file_from name held = (name_or_none name, held)
 
--- some of the files were made, the first ones
+-- one file failed: those before it were made, and it and those behind it weren't
 pub record MakesSome (old new : FileMap) (all : List NamedFile) : Type 0 where
   pub made : List NamedFile
+  pub failed : NamedFile
   pub behind : List NamedFile
-  pub all_are : all ≡ made ++ behind
+  pub all_are : all ≡ made ++ failed ∷ behind
   pub files : new ≡ with_files old made
 
 -- all were made, or where one failed the ones before it

@@ -85,8 +85,8 @@ runs_exact words old new tells out_old out_new files_rose out_rose text status o
 runs_exact words old new tells out_old out_new files_rose out_rose text status one (inr (inr m)) = λ end h. inr (inr m.0)
 
 broke_rose : (Comes : End → Type 0) (old new : FileMap) (tells : Bool) (out_old out_new : List ℕ) (files_rose out_rose : Type 0) → Broke Comes old new tells out_old out_new files_rose out_rose → files_rose ⊎ out_rose
-broke_rose Comes old new tells out_old out_new files_rose out_rose (inl b) = b.1
-broke_rose Comes old new tells out_old out_new files_rose out_rose (inr (inl b)) = inl b.6
+broke_rose Comes old new tells out_old out_new files_rose out_rose (inl b) = inl b.1
+broke_rose Comes old new tells out_old out_new files_rose out_rose (inr (inl b)) = inl b.7
 broke_rose Comes old new tells out_old out_new files_rose out_rose (inr (inr b)) = inr b.4
 
 pub runs_complete : (words : List (List ℕ)) (old new : FileMap) (tells : Bool) (out_old out_new : List ℕ) (files_rose out_rose : Type 0) (text : List ℕ) (status : ℕ) → OneStatus → Runs words old new tells out_old out_new files_rose out_rose text status → IsComplete words old (files_rose ⊎ out_rose) status

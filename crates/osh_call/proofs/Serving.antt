@@ -32,7 +32,7 @@ halts_serve Comes old new tells out_old out_new files_rose out_rose answer.Refus
 halts_serve Comes old new tells out_old out_new files_rose out_rose answer.Checked h f o r = absurd h
 halts_serve Comes old new tells out_old out_new files_rose out_rose answer.Done h f o r = absurd h
 halts_serve Comes old new tells out_old out_new files_rose out_rose answer.Faulty h f o r = absurd h
-halts_serve Comes old new tells out_old out_new files_rose out_rose answer.Device h f o r = inr (inl (refl, inl (record { files_are = f; out = nothing_more tells o }, inl (r refl))))
+halts_serve Comes old new tells out_old out_new files_rose out_rose answer.Device h f o r = inr (inl (refl, inl (record { files_are = f; out = nothing_more tells o }, r refl)))
 halts_serve Comes old new tells out_old out_new files_rose out_rose answer.Memory h f o r = inr (inr (refl, record { files_are = f; out = nothing_more tells o }))
 
 -- what a check comes to
@@ -67,7 +67,7 @@ tells_serve old new name c v tells out_old out_new files_rose out_rose a s h f t
 -- what a call comes to by way of another
 broke_by : (P Q : End → Type 0) (old new : FileMap) (tells : Bool) (out_old out_new : List ℕ) (files_rose out_rose : Type 0) → ((end : End) → P end → Q end) → Broke P old new tells out_old out_new files_rose out_rose → Broke Q old new tells out_old out_new files_rose out_rose
 broke_by P Q old new tells out_old out_new files_rose out_rose f (inl b) = inl b
-broke_by P Q old new tells out_old out_new files_rose out_rose f (inr (inl b)) = inr (inl (b.0, b.1, b.2, f b.0 b.3, b.4, b.5, b.6))
+broke_by P Q old new tells out_old out_new files_rose out_rose f (inr (inl b)) = inr (inl (b.0, b.1, b.2, b.3, f b.0 b.4, b.5, b.6, b.7))
 broke_by P Q old new tells out_old out_new files_rose out_rose f (inr (inr b)) = inr (inr (b.0, b.1, f b.0 b.2, b.3, b.4))
 
 pub serves_by : (P Q : End → Type 0) (old new : FileMap) (tells : Bool) (out_old out_new : List ℕ) (files_rose out_rose : Type 0) (a : Answer) → ((end : End) → P end → Q end) → Serves P old new tells out_old out_new files_rose out_rose a → Serves Q old new tells out_old out_new files_rose out_rose a

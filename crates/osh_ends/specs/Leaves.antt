@@ -111,11 +111,11 @@ pub record Ended (words : List (List ℕ)) (old new : FileMap) (tells : Bool) (o
   pub err_is : err_text ≡ line end
   pub status_is : status ≡ end_status end
 
--- A device failed: before anything was left; or when some of the files were made, the first ones; or out failed, when a part of what is printed was out.
+-- A device failed: one of files, before anything was left; or one file couldn't be made, when those before it were, and it and those behind it weren't; or out failed, when all files were made and a part of what is printed was out.
 abbrev pub Broke : (End → Type 0) → FileMap → FileMap → Bool → List ℕ → List ℕ → (files_rose out_rose : Type 0) → Type 0
 Broke Comes old new tells out_old out_new files_rose out_rose =
-    (Leaves old new tells out_old out_new [] × (files_rose ⊎ out_rose))
-    ⊎ (((end : End) × (made : List NamedFile) × (behind : List NamedFile) × Comes end × (outputs end ≡ made ++ behind) × Leaves (with_files old made) new tells out_old out_new [] × files_rose)
+    (Leaves old new tells out_old out_new [] × files_rose)
+    ⊎ (((end : End) × (made : List NamedFile) × (failed : NamedFile) × (behind : List NamedFile) × Comes end × (outputs end ≡ made ++ failed ∷ behind) × Leaves (with_files old made) new tells out_old out_new [] × files_rose)
     ⊎ ((end : End) × (n : ℕ) × Comes end × Leaves (with_files old (outputs end)) new tells out_old out_new (take n (printed end)) × out_rose))
 
 -- A whole call: it came to its end, or a device failed, or memory was wanting and nothing is left.

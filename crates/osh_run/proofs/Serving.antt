@@ -28,7 +28,7 @@ ends_serve : (Comes : End → Type 0) (old new : FileMap) (c : Chart) (nodes : �
 ends_serve Comes old new c nodes states choices tells out_old out_new files_rose out_rose ending.Done f d = inl (done d.0 d.1, f (done d.0 d.1) d.2, (d.0, d.1, refl), d.3)
 ends_serve Comes old new c nodes states choices tells out_old out_new files_rose out_rose ending.Faulty f d = inl (faulty d.0, f (faulty d.0) d.1, (d.0, refl), d.2)
 ends_serve Comes old new c nodes states choices tells out_old out_new files_rose out_rose ending.Device f (inl d) = inr (inl (refl, inl d))
-ends_serve Comes old new c nodes states choices tells out_old out_new files_rose out_rose ending.Device f (inr (inl d)) = inr (inl (refl, inr (inl (d.0, d.1, d.2, f d.0 d.3, d.4, d.5, d.6))))
+ends_serve Comes old new c nodes states choices tells out_old out_new files_rose out_rose ending.Device f (inr (inl d)) = inr (inl (refl, inr (inl (d.0, d.1, d.2, d.3, f d.0 d.4, d.5, d.6, d.7))))
 ends_serve Comes old new c nodes states choices tells out_old out_new files_rose out_rose ending.Device f (inr (inr d)) = inr (inl (refl, inr (inr (d.0, d.1, f d.0 d.2, d.3, d.4))))
 ends_serve Comes old new c nodes states choices tells out_old out_new files_rose out_rose ending.Memory f d = inr (inr (refl, d))
 
@@ -55,9 +55,8 @@ seats_serve old new c nodes v states choices tells out_old out_new files_rose ou
 -- a count that rose later rose
 rose_before : (P : End → Type 0) (old new : FileMap) (tells : Bool) (out_old out_new : List ℕ) (before between now : ℕ) (out_rose : Type 0) (a : Answer) → before ≤ between → Serves P old new tells out_old out_new (Rose between now) out_rose a → Serves P old new tells out_old out_new (Rose before now) out_rose a
 rose_before P old new tells out_old out_new before between now out_rose a h (inl s) = inl s
-rose_before P old new tells out_old out_new before between now out_rose a h (inr (inl (is, inl (l, inl r)))) = inr (inl (is, inl (l, inl (rose_later before between now h r))))
-rose_before P old new tells out_old out_new before between now out_rose a h (inr (inl (is, inl (l, inr r)))) = inr (inl (is, inl (l, inr r)))
-rose_before P old new tells out_old out_new before between now out_rose a h (inr (inl (is, inr (inl b)))) = inr (inl (is, inr (inl (b.0, b.1, b.2, b.3, b.4, b.5, rose_later before between now h b.6))))
+rose_before P old new tells out_old out_new before between now out_rose a h (inr (inl (is, inl (l, r)))) = inr (inl (is, inl (l, rose_later before between now h r)))
+rose_before P old new tells out_old out_new before between now out_rose a h (inr (inl (is, inr (inl b)))) = inr (inl (is, inr (inl (b.0, b.1, b.2, b.3, b.4, b.5, b.6, rose_later before between now h b.7))))
 rose_before P old new tells out_old out_new before between now out_rose a h (inr (inl (is, inr (inr b)))) = inr (inl (is, inr (inr b)))
 rose_before P old new tells out_old out_new before between now out_rose a h (inr (inr s)) = inr (inr s)
 

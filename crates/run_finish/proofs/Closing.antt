@@ -43,8 +43,8 @@ same_files : (files : FileMap) (fs : List NamedFile) → outputs.with_files file
 same_files files [] = refl
 same_files files (f ∷ fs) = same_files (with_file files (f.0) (f.1)) fs
 
-pub some_left : (old new : FileMap) (all : List NamedFile) (tells : Bool) (out : List ℕ) → MakesSome old new all → (made : List NamedFile) × (behind : List NamedFile) × (all ≡ made ++ behind) × Leaves (with_files old made) new tells out out []
-some_left old new all tells out m = (m.made, m.behind, m.all_are, record { files_are = m.files ∙ same_files old m.made; out = λ t. sym (append-nil out) })
+pub some_left : (old new : FileMap) (all : List NamedFile) (tells : Bool) (out : List ℕ) → MakesSome old new all → (made : List NamedFile) × (failed : NamedFile) × (behind : List NamedFile) × (all ≡ made ++ failed ∷ behind) × Leaves (with_files old made) new tells out out []
+some_left old new all tells out m = (m.made, m.failed, m.behind, m.all_are, record { files_are = m.files ∙ same_files old m.made; out = λ t. sym (append-nil out) })
 
 pub on_err : {A B : Type 0} (r : Result A B) (P : Type 0) → true ≡ is_err r → OnErr r P → P
 on_err (Ok x) P e h = absurd (cc)
@@ -112,7 +112,7 @@ pub delivered : (old new : FileMap) (c : Chart) (nodes : ℕ) (states : List Sta
     → RunsTo old c nodes states choices (done all text) → Delivers old new all tells out_old out_new text files_rose out_rose e → Ends old new c nodes states choices tells out_old out_new files_rose out_rose e
 delivered old new c nodes states choices tells out_old out_new files_rose out_rose all text ending.Done r d = (all, text, r, d)
 delivered old new c nodes states choices tells out_old out_new files_rose out_rose all text ending.Faulty r d = absurd d
-delivered old new c nodes states choices tells out_old out_new files_rose out_rose all text ending.Device r (inl d) = inr (inl (done all text, d.0, d.1, r, d.2, d.3, d.4))
+delivered old new c nodes states choices tells out_old out_new files_rose out_rose all text ending.Device r (inl d) = inr (inl (done all text, d.0, d.1, d.2, r, d.3, d.4, d.5))
 delivered old new c nodes states choices tells out_old out_new files_rose out_rose all text ending.Device r (inr d) = inr (inr (done all text, d.0, r, d.1, d.2))
 delivered old new c nodes states choices tells out_old out_new files_rose out_rose all text ending.Memory r d = d
 
@@ -133,7 +133,7 @@ rose_later a b c l r = grind (arith, l, r)
 widened : (old new : FileMap) (all : List NamedFile) (tells : Bool) (out_old out_new text : List ℕ) (mid_rose files_rose out_rose : Type 0) (e : Ending) → (mid_rose → files_rose) → Delivers old new all tells out_old out_new text mid_rose out_rose e → Delivers old new all tells out_old out_new text files_rose out_rose e
 widened old new all tells out_old out_new text mid_rose files_rose out_rose ending.Done f d = d
 widened old new all tells out_old out_new text mid_rose files_rose out_rose ending.Faulty f d = d
-widened old new all tells out_old out_new text mid_rose files_rose out_rose ending.Device f (inl d) = inl (d.0, d.1, d.2, d.3, f d.4)
+widened old new all tells out_old out_new text mid_rose files_rose out_rose ending.Device f (inl d) = inl (d.0, d.1, d.2, d.3, d.4, f d.5)
 widened old new all tells out_old out_new text mid_rose files_rose out_rose ending.Device f (inr d) = inr d
 widened old new all tells out_old out_new text mid_rose files_rose out_rose ending.Memory f d = d
 

@@ -54,9 +54,8 @@ is_run files c states choices ran old new t f = record {
 
 -- what broke, where a count that rose later rose
 broke_from : (Comes : End → Type 0) (old new : FileMap) (tells : Bool) (out_old out_new : List ℕ) (mid_rose files_rose out_rose : Type 0) → (mid_rose → files_rose) → Broke Comes old new tells out_old out_new mid_rose out_rose → Broke Comes old new tells out_old out_new files_rose out_rose
-broke_from Comes old new tells out_old out_new mid_rose files_rose out_rose f (inl (l, inl r)) = inl (l, inl (f r))
-broke_from Comes old new tells out_old out_new mid_rose files_rose out_rose f (inl (l, inr r)) = inl (l, inr r)
-broke_from Comes old new tells out_old out_new mid_rose files_rose out_rose f (inr (inl b)) = inr (inl (b.0, b.1, b.2, b.3, b.4, b.5, f b.6))
+broke_from Comes old new tells out_old out_new mid_rose files_rose out_rose f (inl (l, r)) = inl (l, f r)
+broke_from Comes old new tells out_old out_new mid_rose files_rose out_rose f (inr (inl b)) = inr (inl (b.0, b.1, b.2, b.3, b.4, b.5, b.6, f b.7))
 broke_from Comes old new tells out_old out_new mid_rose files_rose out_rose f (inr (inr b)) = inr (inr b)
 
 ends_later : (old new : FileMap) (c : Chart) (nodes : ℕ) (states : List State) (choices : List Choice) (tells : Bool) (out_old out_new : List ℕ) (mid_rose files_rose out_rose : Type 0) (e : Ending) → (mid_rose → files_rose)
@@ -75,7 +74,7 @@ ends_from old mid new c nodes states choices tells out_old out_new faults_old fa
 
 -- a device failed before anything was left, or memory was wanting
 pub broke_early : (old new : FileMap) (c : Chart) (nodes : ℕ) (states : List State) (choices : List Choice) (tells : Bool) (out : List ℕ) (files_rose out_rose : Type 0) → new ≡ old → files_rose → Ends old new c nodes states choices tells out out files_rose out_rose ending.Device
-broke_early old new c nodes states choices tells out files_rose out_rose same r = inl (record { files_are = same; out = λ t. sym (append-nil out) }, inl r)
+broke_early old new c nodes states choices tells out files_rose out_rose same r = inl (record { files_are = same; out = λ t. sym (append-nil out) }, r)
 
 pub wanted_memory : (old new : FileMap) (c : Chart) (nodes : ℕ) (states : List State) (choices : List Choice) (tells : Bool) (out : List ℕ) (files_rose out_rose : Type 0) → new ≡ old → Ends old new c nodes states choices tells out out files_rose out_rose ending.Memory
 wanted_memory old new c nodes states choices tells out files_rose out_rose same = record { files_are = same; out = λ t. sym (append-nil out) }

@@ -9,4 +9,4 @@ returns-then-is_err-clause-delivers g c = λ tells.
     let e = c.if-is_err.ensures.value in
     let made : MakesSome (g.F.Files.holds c.args.files.now) (g.F.Files.holds c.commit_all.new.files) all = on_err c.commit_all.result (MakesSome (g.F.Files.holds c.args.files.now) (g.F.Files.holds c.commit_all.new.files) all) e (c.commit_all.ensures.err tells) in
     let left = some_left (g.F.Files.holds c.args.files.now) (g.F.Files.holds c.commit_all.new.files) all g.O.Sink.tells (g.O.Sink.held c.args.out.now) made in
-    inl (left.0, left.1, left.2, left.3, c.commit_all.ensures.cause.rose (an_err c.commit_all.result e))
+    inl (left.0, left.1, left.2, left.3, left.4, c.commit_all.ensures.cause.rose (an_err c.commit_all.result e))
