@@ -1,7 +1,8 @@
 -- Rows as lists of values, lists of columns, and the columns of one row that stand in another.
-use Rattle.std.specs.Prelude.{ℕ, Bool, true, false, cond, ◌&&◌, ◌==◌, List, [], ◌∷◌, Option, Some, None}
+use Rattle.std.specs.Prelude.{ℕ, ◌^◌, nat_lt, Bool, true, false, cond, ◌&&◌, ◌==◌, List, [], ◌∷◌, length, Option, Some, None}
 use Rattle.std.specs.List.{AllByRecursion, range_with_len}
 use Rattle.ds_value.specs.declared.value.Value.{Value}
+use Rattle.ds_value.specs.declared.value.Value.TheVariants.{Null, Int, UInt, Dec, Text, Date}
 pub use Rattle.streams.specs.Lists.{IsIn}
 
 abbrev pub Row : Type 0
@@ -10,6 +11,15 @@ Row = List Value
 -- a missing row: all its columns are null
 abbrev pub no_row : Row
 no_row = []
+
+-- a text of fewer than 2^32 bytes, or no text: a length that canonical bytes have room for
+abbrev pub is_short : Value → Bool
+is_short Null = true
+is_short (Int z) = true
+is_short (UInt n) = true
+is_short (Dec z) = true
+is_short (Text bytes) = nat_lt (length bytes) (2 ^ 32)
+is_short (Date z) = true
 
 -- each column of the first list is in the second
 abbrev pub Lies : List ℕ → List ℕ → Type 0

@@ -9,9 +9,9 @@ use Rattle.ds_value.specs.declared.value.Value.TheVariants.{Null, Int, UInt, Dec
 use Rattle.ds_value.specs.Canonical.{IsShort}
 use Rattle.ds_schema.specs.declared.key.Key.{Key}
 use Rattle.ds_schema.specs.Rows.{at, val, cols, KeyInWidth}
-use Rattle.op_base.specs.Columns.{Row}
+use Rattle.op_base.specs.Columns.{Row, is_short}
 use Rattle.op_group.specs.declared.agg.Agg.{Agg}
-use Rattle.op_group.specs.Groups.{is_short, agg_suits, row_suits}
+use Rattle.op_group.specs.Groups.{agg_suits, row_suits}
 
 in_keys : (keys : List Key) (row : Row) → list_all (λ c. nat_lt c (length row)) (cols keys) ≡ true → All (KeyInWidth row) keys
 in_keys [] row h k d lt = absurd (omega arith)

@@ -9,7 +9,7 @@ use Rattle.ds_value.specs.Values.{variant}
 use Rattle.ds_schema.specs.declared.key.Key.{Key}
 use Rattle.ds_schema.specs.Rows.{at, val, cols, ways, row_cmp}
 use Rattle.op_base.specs.declared.fault.Fault.{Fault}
-use Rattle.op_base.specs.Columns.{Row}
+use Rattle.op_base.specs.Columns.{Row, is_short}
 use Rattle.op_base.specs.Keyed.{for_values}
 use Rattle.op_base.specs.Lists.{ties}
 use Rattle.op_base.specs.Meanings.{Grouping, input, group_rows, group_faults}
@@ -49,15 +49,6 @@ is_summable (UInt n) = true
 is_summable (Dec z) = nat_lt (unsigned_abs z) (10 ^ 18)
 is_summable (Text b) = false
 is_summable (Date z) = false
-
--- a text of fewer than 2^32 bytes, or no text
-abbrev pub is_short : Value → Bool
-is_short Null = true
-is_short (Int z) = true
-is_short (UInt n) = true
-is_short (Dec z) = true
-is_short (Text b) = nat_lt (length b) (2 ^ 32)
-is_short (Date z) = true
 
 -- the column is there, and can be summed where it is
 abbrev pub agg_suits : Row → Agg → Bool

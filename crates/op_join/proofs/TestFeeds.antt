@@ -4,11 +4,11 @@ use Rattle.std.specs.List.{list_all}
 use Rattle.streams.specs.Streams.{Feed, rows_of}
 use Rattle.streams.proofs.Basics.{and_left, and_right, and_true}
 use Rattle.streams.proofs.StreamLaws.{eq_true}
-use Rattle.op_base.specs.Columns.{Row}
+use Rattle.op_base.specs.Columns.{Row, is_short}
 use Rattle.op_base.specs.Feeds.{fed}
 use Rattle.op_base.specs.Standing.{end_feed, row_feed}
 use Rattle.op_runs.proofs.Ports.{port_rows-end, port_rows-row}
-use Rattle.op_join.specs.Joining.{is_short, join_suits, row_suits}
+use Rattle.op_join.specs.Joining.{join_suits, row_suits}
 
 all_more : (p : Row → Bool) (xs : List Row) (x : Row) → list_all p xs ≡ true → p x ≡ true → list_all p (xs ++ x ∷ []) ≡ true
 all_more p [] x h k = and_true k refl

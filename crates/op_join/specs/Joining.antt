@@ -1,12 +1,10 @@
 -- What a join is made with, and its stream.
-use Rattle.std.specs.Prelude.{◌<◌, ◌^◌, ℕ, ◌==◌, nat_lt, Bool, true, false, not, ◌&&◌, List, [], ◌∷◌, map, length}
+use Rattle.std.specs.Prelude.{◌<◌, ℕ, ◌==◌, Bool, true, false, not, ◌&&◌, List, [], ◌∷◌, map, length}
 use Rattle.std.specs.List.{AllByRecursion, filter, list_all}
 use Rattle.streams.specs.Streams.{Feed, sends, rows_of}
-use Rattle.ds_value.specs.declared.value.Value.{Value}
-use Rattle.ds_value.specs.declared.value.Value.TheVariants.{Null, Int, UInt, Dec, Text, Date}
 use Rattle.ds_schema.specs.declared.key.Key.{Key}
 use Rattle.ds_schema.specs.Rows.{cols, ways}
-use Rattle.op_base.specs.Columns.{Row, all_columns, is_in}
+use Rattle.op_base.specs.Columns.{Row, all_columns, is_in, is_short}
 use Rattle.op_base.specs.Meanings.{Join, join_rule}
 use Rattle.op_base.specs.Standing.{RowStream}
 use Rattle.op_runs.specs.KeyedStreams.{KeyRule, keyed_stream}
@@ -54,15 +52,7 @@ key_columns j = cols j.left_keys ∷ (cols j.right_keys ∷ [])
 abbrev pub join_stream : Join → RowStream
 join_stream j = keyed_stream (ways j.left_keys) (key_columns j) (join_outs j)
 
--- a row that can be fed has the values of its port's columns, none of which is a text of 2^32 bytes or more
-abbrev pub is_short : Value → Bool
-is_short Null = true
-is_short (Int z) = true
-is_short (UInt n) = true
-is_short (Dec z) = true
-is_short (Text bytes) = nat_lt (length bytes) (2 ^ 32)
-is_short (Date z) = true
-
+-- a row that can be fed has the values of its port's columns, and no text is too long
 abbrev pub row_suits : ℕ → Row → Bool
 row_suits width r = (length r == width) && list_all is_short r
 

@@ -2,7 +2,8 @@ ghost use Rattle.std.specs.Prelude.{◌≡◌, IfOk, OnOk, List, false, true, []
 ghost use Rattle.std.specs.List.{list_all};
 ghost use Rattle.streams.specs.Streams.{Feed};
 ghost use Rattle.op_base.specs.Columns.{Row as Cells};
-ghost use Rattle.op_join.specs.Joining.{is_short, row_suits, join_suits};
+ghost use Rattle.op_base.specs.Columns.{is_short};
+ghost use Rattle.op_join.specs.Joining.{row_suits, join_suits};
 
 use super::*;
 use ds_schema::{Key, KeyList, Row};

@@ -15,10 +15,10 @@ use Rattle.ds_value.specs.Canonical.{IsShort}
 use Rattle.ds_value.specs.declared.value.Value.{Value}
 use Rattle.ds_value.specs.declared.value.Value.TheVariants.{Null, Int, UInt, Dec, Text, Date}
 use Rattle.ds_schema.specs.Rows.{InWidth, val}
-use Rattle.op_base.specs.Columns.{Row}
+use Rattle.op_base.specs.Columns.{Row, is_short}
 use Rattle.op_base.specs.Standing.{row_feed, end_feed}
 use Rattle.op_base.proofs.StandingLaws.{ended-row, ended-end, rows_of-row, rows_of-end}
-use Rattle.op_lookup.specs.Looked.{is_short, suits_main, suits_reference, suits_lookup}
+use Rattle.op_lookup.specs.Looked.{suits_main, suits_reference, suits_lookup}
 use Rattle.op_lookup.specs.Standing.{IsTold, LookupStands}
 use Rattle.op_lookup.specs.Table.{key_of, or_kept, first_others}
 use Rattle.op_lookup.proofs.Finding.{first_others-more}

@@ -1,17 +1,15 @@
 -- Lookup as a stream, and the rows that suit it.
-use Rattle.std.specs.Prelude.{ℕ, ◌^◌, ◌==◌, nat_lt, Bool, true, false, not, ◌&&◌, List, ◌++◌, length, map, take}
+use Rattle.std.specs.Prelude.{ℕ, ◌==◌, nat_lt, Bool, false, not, ◌&&◌, List, ◌++◌, length, map, take}
 use Rattle.std.specs.List.{filter, flat_map, list_all}
 use Rattle.streams.specs.Streams.{Feed, Out, sends, fails, rows_of}
 use Rattle.streams.specs.Operators.{lookup_stream}
-use Rattle.ds_value.specs.declared.value.Value.{Value}
-use Rattle.ds_value.specs.declared.value.Value.TheVariants.{Null, Int, UInt, Dec, Text, Date}
 use Rattle.ds_value.specs.Canonical.{canonical_bytes}
 use Rattle.ds_schema.specs.declared.key.Key.{Key}
 use Rattle.ds_schema.specs.Rows.{val, sub}
 use Rattle.op_base.specs.declared.fault.Fault.{Fault}
 use Rattle.op_base.specs.declared.fault.FaultKind.TheVariants as kind
 use Rattle.op_base.specs.declared.missing.Missing.{Missing}
-use Rattle.op_base.specs.Columns.{Row, all_columns, is_in}
+use Rattle.op_base.specs.Columns.{Row, all_columns, is_in, is_short}
 use Rattle.op_base.specs.Meanings.{Looking, looked_row, looked_fault}
 use Rattle.op_base.specs.Standing.{RowStream}
 
@@ -45,15 +43,6 @@ looked k a found = map (sends 0) (looked_row k 0 a found) ++ (map (sends 1) (loo
 -- each main row at once, in the reference that came before it
 abbrev pub looked_stream : List ℕ → List ℕ → ℕ → Missing → RowStream
 looked_stream main reference width missing = lookup_stream (λ a rows. looked (looking (length a) main reference width missing) a (sub reference (val main a) rows))
-
--- the length of a text fits the four bytes that canonical bytes have for it
-abbrev pub is_short : Value → Bool
-is_short Null = true
-is_short (Int z) = true
-is_short (UInt n) = true
-is_short (Dec z) = true
-is_short (Text b) = nat_lt (length b) (2 ^ 32)
-is_short (Date z) = true
 
 -- a main row has the key's columns
 abbrev pub suits_main : List ℕ → Row → Bool

@@ -2,7 +2,8 @@ ghost use Rattle.std.specs.Prelude.{◌≡◌, ◌==◌, nat_lt, true, List, [],
 ghost use Rattle.std.specs.List.{list_all};
 ghost use Rattle.streams.specs.Streams.{Feed};
 ghost use Rattle.op_base.specs.Columns.{Row as Values};
-ghost use Rattle.op_lookup.specs.Looked.{is_short, suits_main, suits_reference, suits_lookup};
+ghost use Rattle.op_base.specs.Columns.{is_short};
+ghost use Rattle.op_lookup.specs.Looked.{suits_main, suits_reference, suits_lookup};
 
 use super::*;
 use ds_schema::Row;
