@@ -1,9 +1,9 @@
 -- What a group of sorted rows gives of a whole list: what its rule gives run by run.
-use Rattle.std.proofs.Common.{◌≡◌, ℕ, zero, suc, ◌+◌, ◌≤◌, Bool, true, false, cond, List, [], ◌∷◌, ◌++◌, length, map, refl, sym, ap, ap₂, ◌∙◌, subst, true≢false, append-nil, arith}
+use Rattle.std.proofs.Common.{◌≡◌, ℕ, zero, suc, ◌≤◌, Bool, true, false, cond, List, [], ◌∷◌, ◌++◌, length, map, refl, sym, ap, ap₂, ◌∙◌, true≢false, append-nil, arith}
 use Rattle.std.specs.List.{flat_map}
 use Rattle.std.specs.Ordering.{is_eq}
 use Rattle.std.proofs.lemmas.Cmp.{tied_itself}
-use Rattle.streams.specs.Streams.{Out, sends, fails, on, faults_out, Gives}
+use Rattle.streams.specs.Streams.{Out, sends, fails, on, faults_out}
 use Rattle.streams.specs.Lists.{onto_run, runs_of}
 use Rattle.streams.proofs.StreamLaws.{on-append, eq_false}
 use Rattle.streams.proofs.OperatorLaws.{operators_give}
@@ -21,7 +21,7 @@ use Rattle.op_base.proofs.KeyLaws.{flat_map_agree}
 use Rattle.op_base.proofs.Orders.{has_val, val_has, vals_total, row_tie, equal_from_is}
 use Rattle.op_group.specs.declared.agg.Agg.{Agg}
 use Rattle.op_group.specs.Results.{grouping}
-use Rattle.op_group.specs.Groups.{group_outs, same_key, run_group, sorted_stream, value_groups, hashed_stream}
+use Rattle.op_group.specs.Groups.{group_outs, same_key, run_group, value_groups}
 use Rattle.op_group.specs.Laws.{AreGiven, SortedGroups, OrderedGroups, HashedGroups}
 
 -- what some outs give to an output, and their faults

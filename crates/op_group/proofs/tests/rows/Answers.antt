@@ -1,6 +1,5 @@
-use Rattle.std.proofs.Common.{List, [], ◌∷◌, sym, subst}
+use Rattle.std.proofs.Common.{sym, subst}
 use Rattle.std.specs.List.{AllByRecursion}
-use Rattle.op_base.specs.Columns.{Row}
 use Rattle.op_base.proofs.All.{all_append}
 use Rattle.op_group.proofs.Fixtures.{IsNumbers}
 use Rattle.op_group.proofs.tests.rows.Goals as goal
