@@ -1,5 +1,5 @@
 -- Groups of sorted rows as they are fed, computed; wrong results are refused.
-use Rattle.std.proofs.Common.{◌≡◌, ◌≢◌, ◌-◌, ◌^◌, ℕ, true, false, List, [], ◌∷◌, refl, pos, Some, None}
+use Rattle.std.proofs.Common.{◌≡◌, ◌-◌, ◌^◌, ℕ, true, false, List, [], ◌∷◌, refl, pos}
 use Rattle.streams.specs.Streams.{Out, sends, fails, emits}
 use Rattle.ds_value.specs.declared.value.Value.{Value}
 use Rattle.ds_value.specs.declared.value.Value.TheVariants.{Null, Int, UInt, Dec}

@@ -5,3 +5,4 @@ pub mod GiveLaws
 pub mod RunKept
 pub mod Means
 pub mod Examples
+pub mod Fixtures

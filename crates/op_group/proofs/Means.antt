@@ -1,9 +1,9 @@
 -- What a group of sorted rows gives of a whole list: what its rule gives run by run.
-use Rattle.std.proofs.Common.{◌≡◌, ℕ, zero, suc, ◌+◌, ◌≤◌, Bool, true, false, cond, List, [], ◌∷◌, ◌++◌, length, map, refl, sym, ap, ap₂, ◌∙◌, subst, true≢false, append-nil, arith}
+use Rattle.std.proofs.Common.{◌≡◌, ℕ, zero, suc, ◌≤◌, Bool, true, false, cond, List, [], ◌∷◌, ◌++◌, length, map, refl, sym, ap, ap₂, ◌∙◌, true≢false, append-nil, arith}
 use Rattle.std.specs.List.{flat_map}
 use Rattle.std.specs.Ordering.{is_eq}
 use Rattle.std.proofs.lemmas.Cmp.{tied_itself}
-use Rattle.streams.specs.Streams.{Out, sends, fails, on, faults_out, Gives}
+use Rattle.streams.specs.Streams.{Out, sends, fails, on, faults_out}
 use Rattle.streams.specs.Lists.{onto_run, runs_of}
 use Rattle.streams.proofs.StreamLaws.{on-append, eq_false}
 use Rattle.streams.proofs.OperatorLaws.{operators_give}
@@ -13,14 +13,16 @@ use Rattle.ds_schema.specs.Rows.{val, has, cols, ways, vals_cmp, row_cmp}
 use Rattle.op_base.specs.declared.fault.Fault.{Fault}
 use Rattle.op_base.specs.Columns.{Row}
 use Rattle.op_base.specs.Feeds.{front, behind, rows_in, run_by_run, by_runs}
+use Rattle.op_base.specs.Keyed.{subs, keys_in, in_order}
 use Rattle.op_base.specs.Meanings.{input, group_rows, group_faults}
 use Rattle.op_base.proofs.Adding.{faults_out-append}
 use Rattle.op_base.proofs.FeedLaws.{behind_short, by_runs_is}
+use Rattle.op_base.proofs.KeyLaws.{flat_map_agree}
 use Rattle.op_base.proofs.Orders.{has_val, val_has, vals_total, row_tie, equal_from_is}
 use Rattle.op_group.specs.declared.agg.Agg.{Agg}
 use Rattle.op_group.specs.Results.{grouping}
-use Rattle.op_group.specs.Groups.{group_outs, same_key, run_group, sorted_stream}
-use Rattle.op_group.specs.Laws.{AreGiven, SortedGroups, OrderedGroups}
+use Rattle.op_group.specs.Groups.{group_outs, same_key, run_group, value_groups}
+use Rattle.op_group.specs.Laws.{AreGiven, SortedGroups, OrderedGroups, HashedGroups}
 
 -- what some outs give to an output, and their faults
 abbrev sent : List Row → List (Out Row Fault)
@@ -140,3 +142,23 @@ ordered-groups keys aggs lists given up g =
       no_more = h.no_more;
       faults_are = h.faults_are ∙ by_runs_is (ways keys) (cols keys ∷ []) (λ v same. group_faults (grouping keys false aggs) v (input 0 same)) (lists 0 ∷ []) (up, tt);
     }
+
+pub hashed-groups : HashedGroups
+hashed-groups keys aggs lists given g =
+    record {
+      rows_are = ap (on 0) e ∙ on_flat 0 outs values ∙ flat_map_agree (λ v. on 0 (outs v)) (λ v. group_rows (grouping keys true aggs) v (rows v)) (λ v. rows_of_outs (group_rows (grouping keys true aggs) v (rows v)) (group_faults (grouping keys true aggs) v (rows v))) values;
+      no_more = λ q. ap (on (suc q)) e ∙ on_flat (suc q) outs values ∙ nothing_flat (λ v. on (suc q) (outs v)) (λ v. no_others q (group_rows (grouping keys true aggs) v (rows v)) (group_faults (grouping keys true aggs) v (rows v))) values;
+      faults_are = ap faults_out e ∙ faults_flat outs values ∙ flat_map_agree (λ v. faults_out (outs v)) (λ v. group_faults (grouping keys true aggs) v (rows v)) (λ v. faults_of_outs (group_rows (grouping keys true aggs) v (rows v)) (group_faults (grouping keys true aggs) v (rows v))) values;
+    }
+  where
+    values : List (List Value)
+    values = in_order true (ways keys) (keys_in (cols keys ∷ []) (lists 0 ∷ []))
+
+    rows : List Value → List Row
+    rows v = input 0 (subs (cols keys ∷ []) v (lists 0 ∷ []))
+
+    outs : List Value → List (Out Row Fault)
+    outs v = group_outs (grouping keys true aggs) v (rows v)
+
+    e : given ≡ value_groups keys aggs (lists 0)
+    e = ((operators_give Row Fault).at_end (value_groups keys aggs)).1 lists given g

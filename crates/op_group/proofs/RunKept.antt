@@ -1,11 +1,9 @@
 -- The last run of rows of one key value, and what it keeps, after one row more.
-use Rattle.std.proofs.Common.{◌≡◌, ℕ, zero, suc, arith, Bool, true, false, not, cond, Option, Some, None, List, [], ◌∷◌, ◌++◌, refl, sym, ap, ap₂, ◌∙◌, subst, true≢false}
-use Rattle.std.specs.Prelude.{nat_lt}
-use Rattle.std.specs.List.{All, AllByRecursion, list_all}
-use Rattle.std.proofs.lemmas.Bool.{ltb-true}
+use Rattle.std.proofs.Common.{◌≡◌, ℕ, Bool, true, false, not, cond, Option, Some, List, [], ◌∷◌, ◌++◌, refl, sym, ap, ap₂, ◌∙◌, subst, true≢false}
+use Rattle.std.specs.List.{AllByRecursion, list_all}
 use Rattle.std.specs.Ordering.{is_eq}
 use Rattle.std.proofs.lemmas.List.Folds.{list_all-append}
-use Rattle.streams.specs.Streams.{row, end, Feed, Out, ended, rows_of}
+use Rattle.streams.specs.Streams.{row, Feed, ended, rows_of}
 use Rattle.streams.specs.Lists.{onto_run, runs_of}
 use Rattle.streams.specs.Operators.{one_wanted, begins_run, last_run, ruled, run_outs}
 use Rattle.streams.proofs.Basics.{and_left, and_right}
@@ -13,7 +11,6 @@ use Rattle.streams.proofs.RunLaws.{runs_with, runs_of-more, AreRuns, one, more, 
 use Rattle.ds_schema.specs.declared.key.Key.{Key}
 use Rattle.ds_schema.specs.Rows.{val, cols, ways, vals_cmp, row_cmp}
 use Rattle.op_base.specs.declared.emit.Emit.{Emit}
-use Rattle.op_base.specs.declared.fault.Fault.{Fault}
 use Rattle.op_base.specs.Columns.{Row}
 use Rattle.op_base.specs.Emits.{Adds}
 use Rattle.op_base.specs.Standing.{row_feed, end_feed}
@@ -24,9 +21,9 @@ use Rattle.op_base.proofs.StandingLaws.{ended-row, ended-end, rows_of-row, one_p
 use Rattle.op_group.specs.declared.agg.Agg.{Agg}
 use Rattle.op_group.specs.declared.sorted.Run.{Run}
 use Rattle.op_group.specs.Results.{results}
-use Rattle.op_group.specs.Groups.{same_key, run_group, row_suits, group_suits, sums_alike, sorted_stream}
+use Rattle.op_group.specs.Groups.{same_key, run_group, row_suits, group_suits}
 use Rattle.op_group.specs.Kept.{TallyStands, given}
-use Rattle.op_group.specs.Runs.{IsRun, RunStands, run_with, turn_outs, Turns, SortedStands}
+use Rattle.op_group.specs.Runs.{IsRun, run_with, turn_outs, Turns, SortedStands}
 
 -- The last run
 module _ {X : Type 0} (same : X → X → Bool) where

@@ -1,5 +1,5 @@
 -- What is kept for a result follows from one row to the next.
-use Rattle.std.proofs.Common.{◌≡◌, ℕ, zero, suc, ◌+◌, ◌<◌, Bool, true, false, not, cond, List, [], ◌∷◌, ◌++◌, length, length-append, map, fold, filter, get_or, refl, sym, ap, ap₂, ◌∙◌, subst, arith}
+use Rattle.std.proofs.Common.{◌≡◌, ℕ, suc, ◌<◌, Bool, true, false, not, cond, List, [], ◌∷◌, ◌++◌, length, fold, filter, get_or, refl, sym, ap, ap₂, ◌∙◌, subst, arith}
 use Rattle.std.specs.Prelude.{nat_lt}
 use Rattle.std.specs.List.{AllByRecursion}
 use Rattle.std.proofs.lemmas.Bool.{ltb-true}
@@ -8,7 +8,6 @@ use Rattle.std.specs.Ordering.{is_lt}
 use Rattle.std.proofs.lemmas.List.Elements.{filter-append}
 use Rattle.std.proofs.lemmas.List.Sums.{fold-append}
 use Rattle.streams.proofs.StreamLaws.{map-append}
-use Rattle.streams.proofs.Basics.{and_left}
 use Rattle.ds_value.specs.declared.value.Value.{Value}
 use Rattle.ds_value.specs.declared.value.Value.TheVariants.{Null, Int, UInt, Dec, Text, Date}
 use Rattle.ds_value.specs.Values.{value_cmp}
@@ -18,10 +17,9 @@ use Rattle.op_group.specs.declared.agg.Agg.TheVariants as agg
 use Rattle.op_group.specs.declared.running.Kept.{Kept}
 use Rattle.op_group.specs.declared.running.Running.{Running}
 use Rattle.op_group.specs.declared.running.Running.TheVariants as running
-use Rattle.op_group.specs.declared.sum.Sum.{Sum}
 use Rattle.op_group.specs.Results.{is_null, column, present, lesser, greater, least, greatest, first_value, last_value}
 use Rattle.op_group.specs.Groups.{agg_suits}
-use Rattle.op_group.specs.Kept.{shown, least_with, SumStands, Follows, RunningStands, agg_of}
+use Rattle.op_group.specs.Kept.{shown, least_with, Follows, RunningStands, agg_of}
 
 pub column-more : (col : ℕ) (rows : List Row) (r : Row) → column col (rows ++ r ∷ []) ≡ column col rows ++ at r col ∷ []
 column-more col rows r = map-append (λ (s : Row). at s col) rows (r ∷ [])

@@ -5,9 +5,8 @@ use Rattle.ds_value.specs.declared.value.Value.{Value}
 use Rattle.ds_value.specs.declared.value.Value.TheVariants.{Null, Int, UInt, Dec, Text, Date}
 use Rattle.ds_value.specs.Values.{number}
 use Rattle.op_group.specs.declared.sum.Number.{Number}
-use Rattle.op_group.specs.declared.sum.Number.TheVariants as kind
 use Rattle.op_group.specs.declared.sum.Sum.{Sum}
-use Rattle.op_group.specs.Results.{is_null, total, sum_like, sum_of}
+use Rattle.op_group.specs.Results.{total, sum_like, sum_of}
 use Rattle.op_group.specs.Groups.{is_summable}
 use Rattle.op_group.specs.Kept.{IsWithin, SumStands, number_kind, first_kind, kept_sum, shown}
 

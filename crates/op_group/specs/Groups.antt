@@ -1,5 +1,5 @@
 -- Groups as streams, and the rows that suit them.
-use Rattle.std.specs.Prelude.{ℕ, ◌^◌, nat_lt, ◌==◌, unsigned_abs, Bool, true, false, ◌&&◌, ◌||◌, List, [], ◌∷◌, ◌++◌, map, length}
+use Rattle.std.specs.Prelude.{◌^◌, nat_lt, ◌==◌, unsigned_abs, Bool, true, false, ◌&&◌, ◌||◌, List, [], ◌∷◌, ◌++◌, map, length}
 use Rattle.std.specs.List.{list_all}
 use Rattle.streams.specs.Streams.{Feed, Out, sends, fails, rows_of}
 use Rattle.streams.specs.Operators.{run_stream, at_end}

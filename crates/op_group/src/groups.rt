@@ -8,11 +8,7 @@ use op_base::Operator;
 use std::alloc::Global;
 
 /// One row for each run of rows of one key value: the key values, then the results.
-pub fn group_sorted(
-    alloc: Global,
-    keys: KeyList,
-    sums: Vec<Agg>,
-) -> Result<GroupSorted, NoMemory>
+pub fn group_sorted(alloc: Global, keys: KeyList, sums: Vec<Agg>) -> Result<GroupSorted, NoMemory>
     ensures stream { IfOk result (λ op. ⟦<GroupSorted as Operator>⟧.stream op ≡ sorted_stream keys sums.items) }
     ensures suits { IfOk result (λ op. ⟦<GroupSorted as Operator>⟧.suits op ≡ group_suits keys sums.items) }
     ensures stands { IfOk result (λ op. ⟦<GroupSorted as Operator>⟧.Stands op []) }

@@ -13,3 +13,6 @@ mod tally;
 pub use agg::Agg;
 pub use groups::group_sorted;
 pub use sorted::GroupSorted;
+
+#[cfg(test)]
+mod tests;

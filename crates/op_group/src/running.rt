@@ -125,10 +125,8 @@ impl Running {
         match self {
             Running::Sum(sum) => sum.value(),
             Running::Count => Some(Value::UInt(count)),
-            Running::Min(kept)
-            | Running::Max(kept)
-            | Running::First(kept)
-            | Running::Last(kept) => Some(kept.value),
+            Running::Min(kept) | Running::Max(kept) | Running::First(kept) | Running::Last(kept) =>
+                Some(kept.value),
         }
     }
 }

@@ -48,11 +48,7 @@ fn add_to_each(running: &mut [Running], row: &Row, before: u64) -> Result<(), No
 }
 
 /// The result of each, or nothing where one overflows.
-fn into_values(
-    alloc: Global,
-    running: Vec<Running>,
-    count: u64,
-) -> Result<Option<Row>, NoMemory>
+fn into_values(alloc: Global, running: Vec<Running>, count: u64) -> Result<Option<Row>, NoMemory>
     ensures { IfOk result (λ values. values ≡ kept_results count running.items) }
 {
     let mut values = Vec::with_capacity(alloc, running.len())?;

@@ -1,5 +1,4 @@
 use Rattle.std.proofs.Common.{◌≡◌, [], Option, List, sym, subst, ◌∙◌, true, false}
-use Rattle.op_base.specs.Columns.{Row}
 use Rattle.op_group.specs.declared.sorted.Run.{Run}
 use Rattle.op_group.specs.Runs.{IsRun, RunStands}
 use Rattle.op_group.proofs.GiveLaws.{aggs_there}

@@ -1,7 +1,7 @@
-use Rattle.std.proofs.Common.{◌≡◌, ◌<◌, true, length, set, get_or, sym, subst, add-one, arith}
+use Rattle.std.proofs.Common.{◌≡◌, ◌<◌, true, length, sym, subst, add-one, arith}
 use Rattle.op_group.specs.declared.running.Running.{Running}
 use Rattle.op_group.specs.Groups.{agg_suits}
-use Rattle.op_group.specs.Kept.{agg_of, RunningStands, FollowTo}
+use Rattle.op_group.specs.Kept.{agg_of, RunningStands}
 use Rattle.op_group.proofs.TallyLaws.{all_there, suits_there, follow_none, still_there, follow_more}
 use Rattle.op_group.proofs.tally.add_to_each.Goals as goal
 
@@ -17,12 +17,11 @@ add-requires-clause-suits c =
 
 pub add-requires-clause-stands : goal.add-requires-clause-stands
 add-requires-clause-stands c =
-    let lt : c.loop-kept.kept-index < length c.args.running.now = omega arith in
-    (
+    let lt : c.loop-kept.kept-index < length c.args.running.now = omega arith in (
       c.requires.stands.0,
       c.requires.stands.1,
       subst (RunningStands c.requires.stands.0) (sym (still_there c.args.before c.args.row.now c.loop-kept.kept-index c.args.running.now c.loop-kept.running c.kept-item.result lt c.loop-kept.invariant))
-      (all_there (RunningStands c.requires.stands.0) c.args.running.now c.loop-kept.kept-index c.kept-item.result lt c.requires.stands.2),
+          (all_there (RunningStands c.requires.stands.0) c.args.running.now c.loop-kept.kept-index c.kept-item.result lt c.requires.stands.2),
     )
 
 pub loop-kept-preserved : goal.loop-kept-preserved

@@ -1,5 +1,5 @@
 use Rattle.std.proofs.Common.{◌∙◌}
-use Rattle.op_group.proofs.TallyLaws.{results_kept, results_full}
+use Rattle.op_group.proofs.TallyLaws.{results_kept}
 use Rattle.op_group.proofs.tally.Tally.into_results.Goals as goal
 
 pub returns : goal.returns
