@@ -1,7 +1,6 @@
 ghost use Rattle.std.specs.Prelude.{◌≡◌, IfOk, OnOk, if◌then◌else◌, map, []};
 ghost use Rattle.std.specs.List.{flat_map};
 ghost use Rattle.streams.specs.Streams.{sends};
-ghost use Rattle.ds_schema.specs.declared.key.Key.{Key as KeyOf};
 ghost use Rattle.op_base.specs.Columns.{no_row};
 ghost use Rattle.op_base.specs.Emits.{Adds};
 ghost use Rattle.op_join.specs.Joining.{keeps_left, keeps_right};

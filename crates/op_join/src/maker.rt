@@ -1,5 +1,4 @@
-ghost use Rattle.std.specs.Prelude.{◌≡◌, ◌<◌, All, IfOk, []};
-ghost use Rattle.ds_schema.specs.declared.key.Key.{Key};
+ghost use Rattle.std.specs.Prelude.{◌≡◌, IfOk, []};
 ghost use Rattle.ds_schema.specs.Rows.{ways};
 ghost use Rattle.op_join.specs.Joining.{AreBelow, joining, join_stream, join_suits};
 
