@@ -6,5 +6,5 @@ mod transfer;
 mod whole;
 
 pub use outputs::{commit_all, discard_all};
-pub use transfer::{ReadFault, print, read_whole, write_whole};
+pub use transfer::{ReadFault, print, read_front, write_whole};
 pub use whole::{LoadFault, load};

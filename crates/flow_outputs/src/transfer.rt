@@ -1,40 +1,44 @@
-//! Reading all of a source, and writing all of some bytes.
+//! Reading the front of a source, and writing all of some bytes.
 
-ghost use Rattle.std.specs.Prelude.{◌≡◌, ◌≤◌, ◌<◌, ◌^◌, ◌++◌, ℕ, length, take, IsTrue, IsErr, IfOk, OnOk, OnErr};
+ghost use Rattle.std.specs.Prelude.{◌≡◌, ◌≤◌, ◌<◌, ◌^◌, ◌+◌, ◌++◌, ℕ, length, take, IsTrue, IsErr, IfOk, OnOk, OnErr};
 ghost use Rattle.ds_port.specs.Causes.{HasCause};
 
 use ds_port::{DeviceFault, Sink, Source};
 use ds_value::Bytes;
 use std::alloc::Global;
 
-const MOST: u64 = 1 << 40;
-
 pub enum ReadFault {
     Device,
     Memory,
-    TooLong,
 }
 
-/// All that a source has left, unless that is more than 2^40 bytes.
-pub fn read_whole<S: Source>(alloc: Global, source: &mut S) -> Result<Bytes, ReadFault>
-    ensures whole { IsTrue S.tells → IfOk result (λ bytes. bytes ≡ S.rest source.old) }
-    ensures long { IsTrue S.tells → result ≡ Err ReadFault.TooLong → 2 ^ 40 < length (S.rest source.old) }
+/// The bytes that a source has left, up to one more than the limit.
+pub fn read_front<S: Source>(
+    alloc: Global,
+    source: &mut S,
+    limit: usize,
+) -> Result<Bytes, ReadFault>
+    requires { limit < 2 ^ 40 }
+    ensures front { IsTrue S.tells → IfOk result (λ bytes. bytes ≡ take (limit + 1) (S.rest source.old)) }
+    ensures most { IfOk result (λ bytes. length bytes ≤ limit + 1) }
     ensures cause { HasCause (S.faults source.old) (S.faults source.new) (result ≡ Err ReadFault.Device) }
 {
     let mut bytes = Bytes::new(alloc);
-    let mut buf = [0u8; 4096];
-    while bytes.as_slice().len() as u64 <= MOST {
-        let Ok(count) = source.read(&mut buf) else {
+    let mut buf = [0u8; 65_536];
+    while bytes.as_slice().len() <= limit {
+        let wanted = (limit + 1 - bytes.as_slice().len()).min(buf.len());
+        let front = &mut buf[..wanted];
+        let Ok(count) = source.read(front) else {
             return Err(ReadFault::Device);
         };
         if count == 0 {
             return Ok(bytes);
         }
-        let Ok(()) = bytes.append(&buf[..count]) else {
+        let Ok(()) = bytes.append(&front[..count]) else {
             return Err(ReadFault::Memory);
         };
     }
-    Err(ReadFault::TooLong)
+    Ok(bytes)
 }
 
 /// Writes all bytes, or some of them and fails.

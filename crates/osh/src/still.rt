@@ -3,7 +3,7 @@
 ghost use Rattle.std.specs.Prelude.{◌≡◌, ◌⊎◌, map, string_bytes, IsTrue};
 ghost use Rattle.ds_port.specs.Causes.{Rose};
 ghost use Rattle.osh_ends.specs.Leaves.{IsExact, IsComplete};
-ghost use Rattle.osh.specs.Calls.{Calls, IsStatus};
+ghost use Rattle.osh.specs.Calls.{Calls, IsNoCommand, IsStatus, WordsDecide};
 
 use crate::serve::serve;
 use ds_port::{Files, Sink};
@@ -29,6 +29,8 @@ pub fn osh_still<F: Files, O: Sink, E: Sink>(
 
     // These hold of files that tell nothing too.
     ensures statuses { IsStatus result.0 }
+    ensures words { WordsDecide (map string_bytes words.now) result.0 }
+    ensures idle { IsNoCommand (map string_bytes words.now) → (files.new ≡ files.old) × (out.new ≡ out.old) }
     ensures device { result.0 ≡ 10 → Rose (F.faults files.old) (F.faults files.new) ⊎ Rose (O.faults out.old) (O.faults out.new) }
 {
     osh_once::one_status();

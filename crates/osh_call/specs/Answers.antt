@@ -26,6 +26,23 @@ Answers answer.Faulty end = (text : List ℕ) × (end ≡ faulty text)
 Answers answer.Device end = ⊥
 Answers answer.Memory end = ⊥
 
+-- the answer of a call whose words are a command
+abbrev pub IsOfCommand : Answer → Type 0
+IsOfCommand answer.Usage = ⊥
+IsOfCommand answer.Unbuilt = Unit {0}
+IsOfCommand (answer.BadFlow at why) = Unit {0}
+IsOfCommand (answer.BadConfig at why) = Unit {0}
+IsOfCommand (answer.BadShape why op) = Unit {0}
+IsOfCommand (answer.Absent name) = Unit {0}
+IsOfCommand answer.Refused = Unit {0}
+IsOfCommand answer.Checked = Unit {0}
+IsOfCommand (answer.Mismatch link from to) = Unit {0}
+IsOfCommand (answer.Crowded players) = Unit {0}
+IsOfCommand answer.Done = Unit {0}
+IsOfCommand answer.Faulty = Unit {0}
+IsOfCommand answer.Device = Unit {0}
+IsOfCommand answer.Memory = Unit {0}
+
 -- a call stops with this answer, and has done nothing: a device failed, memory was wanting, or what it comes to leaves nothing
 abbrev pub Halts : (End → Type 0) → Answer → Type 0
 Halts Comes answer.Usage = Comes usage

@@ -4,6 +4,7 @@ ghost use Rattle.std.specs.Prelude.{◌≡◌, [], false, IsTrue, IfOk, IfErr};
 ghost use Rattle.flow_shape.specs.Refusals.{IsShapeOf};
 ghost use Rattle.flow_rules.specs.Verdicts.{IsVerdict};
 ghost use Rattle.ds_port.specs.Causes.{HasCause};
+ghost use Rattle.osh_call.specs.Answers.{IsOfCommand};
 ghost use Rattle.osh_call.specs.Stages.{IsRead, IsBuiltShape, IsShapeIn, ShapeStops, ShapeFileStops};
 
 use crate::answer::Answer;
@@ -21,6 +22,7 @@ pub fn shaped(alloc: Global, flow: Flow) -> Result<Shaped, Answer>
     requires { IsRead flow }
     ensures shape { IfOk result (λ c. IsShapeOf flow [] c) }
     ensures stops { IfErr result (ShapeStops flow) }
+    ensures command { IfErr result IsOfCommand }
 {
     osh_sound::flows_can_be_shaped();
     match shape(alloc, flow, &[]) {
@@ -35,6 +37,7 @@ pub fn shape_at<F: Files>(alloc: Global, files: &mut F, name: &Name) -> Result<S
     ensures built { IfOk result IsBuiltShape }
     ensures found { IsTrue F.tells → IfOk result (IsShapeIn (F.holds files.old) name.now) }
     ensures stops { IsTrue F.tells → IfErr result (ShapeFileStops (F.holds files.old) name.now) }
+    ensures command { IfErr result IsOfCommand }
     ensures same { F.holds files.new ≡ F.holds files.old }
     ensures cause { HasCause (F.faults files.old) (F.faults files.new) (result ≡ Err Answer.Device) }
 {

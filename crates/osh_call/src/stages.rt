@@ -2,10 +2,12 @@
 
 ghost use Rattle.std.specs.Prelude.{◌≡◌, ◌⊎◌, ◌<◌, IsTrue, IfOk, IfErr};
 ghost use Rattle.ds_port.specs.Causes.{HasCause};
+ghost use Rattle.osh_call.specs.Answers.{IsOfCommand};
 ghost use Rattle.osh_call.specs.Stages.{IsFlowIn, IsNodesIn, IsRead, Has, FlowInStops, NodesInStops, FileStops};
 
 use crate::answer::Answer;
 use config_read::{ConfigFault, default_nodes, read_config};
+use ds_lex::TEXT_LIMIT;
 use ds_port::Files;
 use ds_value::Name;
 use flow_graph::Flow;
@@ -16,7 +18,8 @@ use std::alloc::Global;
 
 /// The answer that a file isn't there.
 pub fn absent(name: &Name) -> Answer
-    ensures { (result ≡ Answer.Absent name.now) ⊎ (result ≡ Answer.Memory) }
+    ensures absent { (result ≡ Answer.Absent name.now) ⊎ (result ≡ Answer.Memory) }
+    ensures command { IsOfCommand result }
 {
     match name.copied() {
         Ok(name) => Answer::Absent(name),
@@ -28,6 +31,7 @@ pub fn absent(name: &Name) -> Answer
 fn flow_in(alloc: Global, text: &[u8]) -> Result<Flow, Answer>
     ensures flow { IfOk result (IsFlowIn text.now) }
     ensures stops { IfErr result (FlowInStops text.now) }
+    ensures command { IfErr result IsOfCommand }
 {
     match read_flow(alloc, text) {
         Ok(flow) => {
@@ -47,16 +51,15 @@ pub fn flow_at<F: Files>(alloc: Global, files: &mut F, name: &Name) -> Result<Fl
     ensures read { IfOk result IsRead }
     ensures found { IsTrue F.tells → IfOk result (λ flow. Has (F.holds files.old) name.now (λ text. IsFlowIn text flow)) }
     ensures stops { IsTrue F.tells → IfErr result (FileStops (F.holds files.old) name.now FlowInStops) }
+    ensures command { IfErr result IsOfCommand }
     ensures same { F.holds files.new ≡ F.holds files.old }
     ensures cause { HasCause (F.faults files.old) (F.faults files.new) (result ≡ Err Answer.Device) }
 {
-    match load(alloc, files, name) {
+    match load(alloc, files, name, TEXT_LIMIT) {
         Ok(text) => flow_in(alloc, text.as_slice()),
         Err(LoadFault::NotFound) => Err(absent(name)),
         Err(LoadFault::Failed) => Err(Answer::Device),
-        // What is too long to be read whole is too long for memory.
         Err(LoadFault::Refused) => Err(Answer::Memory),
-        Err(LoadFault::TooLong) => Err(Answer::Memory),
     }
 }
 
@@ -65,6 +68,7 @@ fn nodes_in(alloc: Global, text: &[u8]) -> Result<u32, Answer>
     ensures nodes { IfOk result (IsNodesIn text.now) }
     ensures some { IfOk result (λ nodes. 0 < nodes) }
     ensures stops { IfErr result (NodesInStops text.now) }
+    ensures command { IfErr result IsOfCommand }
 {
     match read_config(alloc, text) {
         Ok(config) => Ok(default_nodes(&config)),
@@ -78,14 +82,14 @@ pub fn nodes_at<F: Files>(alloc: Global, files: &mut F, name: &Name) -> Result<u
     ensures found { IsTrue F.tells → IfOk result (λ nodes. Has (F.holds files.old) name.now (λ text. IsNodesIn text nodes)) }
     ensures some { IfOk result (λ nodes. 0 < nodes) }
     ensures stops { IsTrue F.tells → IfErr result (FileStops (F.holds files.old) name.now NodesInStops) }
+    ensures command { IfErr result IsOfCommand }
     ensures same { F.holds files.new ≡ F.holds files.old }
     ensures cause { HasCause (F.faults files.old) (F.faults files.new) (result ≡ Err Answer.Device) }
 {
-    match load(alloc, files, name) {
+    match load(alloc, files, name, TEXT_LIMIT) {
         Ok(text) => nodes_in(alloc, text.as_slice()),
         Err(LoadFault::NotFound) => Err(absent(name)),
         Err(LoadFault::Failed) => Err(Answer::Device),
         Err(LoadFault::Refused) => Err(Answer::Memory),
-        Err(LoadFault::TooLong) => Err(Answer::Memory),
     }
 }

@@ -5,7 +5,7 @@ ghost use Rattle.ds_port.specs.Causes.{Rose};
 ghost use Rattle.flow_rules.specs.Verdicts.{IsVerdict};
 ghost use Rattle.osh_ends.specs.Ends.{ChecksFile};
 ghost use Rattle.osh_ends.specs.Reports.{verdict_report};
-ghost use Rattle.osh_call.specs.Answers.{Serves, Tells};
+ghost use Rattle.osh_call.specs.Answers.{IsOfCommand, Serves, Tells};
 
 use crate::answer::Answer;
 use crate::checking::{judged, shape_at};
@@ -38,6 +38,7 @@ pub fn verdict_report(alloc: Global, shaped: &Shaped, verdict: &Verdict) -> Resu
 pub fn tell<O: Sink>(alloc: Global, out: &mut O, shaped: &Shaped, verdict: &Verdict) -> Answer
     requires { IsVerdict false shaped.now verdict.now }
     ensures told { Tells shaped.now verdict.now O.tells (O.held out.old) (O.held out.new) (Rose (O.faults out.old) (O.faults out.new)) result }
+    ensures command { IsOfCommand result }
 {
     let Ok(text) = verdict_report(alloc, shaped, verdict) else {
         return Answer::Memory;
@@ -55,6 +56,7 @@ pub fn tell<O: Sink>(alloc: Global, out: &mut O, shaped: &Shaped, verdict: &Verd
 pub fn check<F: Files, O: Sink>(alloc: Global, files: &mut F, out: &mut O, name: &Name) -> Answer
     ensures serves { IsTrue F.tells → Serves (ChecksFile (F.holds files.old) name.now) (F.holds files.old) (F.holds files.new) O.tells (O.held out.old) (O.held out.new) (Rose (F.faults files.old) (F.faults files.new)) (Rose (O.faults out.old) (O.faults out.new)) result }
     ensures device { result ≡ Answer.Device → Rose (F.faults files.old) (F.faults files.new) ⊎ Rose (O.faults out.old) (O.faults out.new) }
+    ensures command { IsOfCommand result }
 {
     let shaped = match shape_at(alloc, files, name) {
         Ok(shaped) => shaped,

@@ -3,7 +3,7 @@
 ghost use Rattle.std.specs.Prelude.{◌≡◌, ◌⊎◌, IsTrue};
 ghost use Rattle.ds_port.specs.Causes.{Rose};
 ghost use Rattle.osh_ends.specs.Ends.{RunsFile};
-ghost use Rattle.osh_call.specs.Answers.{Serves};
+ghost use Rattle.osh_call.specs.Answers.{IsOfCommand, Serves};
 
 use crate::seating::run_seated;
 use crate::stages::prepare;
@@ -24,6 +24,7 @@ pub fn run<F: Files, O: Sink>(
 ) -> Answer
     ensures serves { IsTrue F.tells → Serves (RunsFile (F.holds files.old) flow.now config.now) (F.holds files.old) (F.holds files.new) O.tells (O.held out.old) (O.held out.new) (Rose (F.faults files.old) (F.faults files.new)) (Rose (O.faults out.old) (O.faults out.new)) result }
     ensures device { result ≡ Answer.Device → Rose (F.faults files.old) (F.faults files.new) ⊎ Rose (O.faults out.old) (O.faults out.new) }
+    ensures command { IsOfCommand result }
 {
     let prepared = match prepare(alloc, files, flow, config) {
         Ok(prepared) => prepared,

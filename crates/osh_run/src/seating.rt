@@ -8,7 +8,7 @@ ghost use Rattle.flow_rules.specs.Verdicts.{IsVerdict};
 ghost use Rattle.flow_score.specs.Seating.{Seats};
 ghost use Rattle.osh_ends.specs.Ends.{AcceptedRuns, SeatsOn};
 ghost use Rattle.osh_ends.specs.FlowFiles.{first_missing};
-ghost use Rattle.osh_call.specs.Answers.{Halts, Serves};
+ghost use Rattle.osh_call.specs.Answers.{Halts, IsOfCommand, Serves};
 ghost use Rattle.osh_call.specs.Stages.{IsBuiltShape};
 ghost use Rattle.osh_run.specs.Stages.{answer_of};
 
@@ -27,6 +27,7 @@ fn seated(shaped: &Shaped, choices: &[Choice], nodes: u32) -> Result<u32, Answer
     ensures seats { IfOk result (Seats shaped.now choices.now nodes) }
     ensures stops { IfErr result (Halts (SeatsOn shaped.now choices.now nodes (λ _. ⊥))) }
     ensures quiet { IfErr result (λ answer. answer ≡ Answer.Device → ⊥) }
+    ensures command { IfErr result IsOfCommand }
 {
     shaped.is_shaped();
     match seat(shaped, choices, nodes) {
@@ -40,7 +41,8 @@ fn seated(shaped: &Shaped, choices: &[Choice], nodes: u32) -> Result<u32, Answer
 }
 
 fn answer_of(ending: Ending) -> Answer
-    ensures { result ≡ answer_of ending }
+    ensures answer { result ≡ answer_of ending }
+    ensures command { IsOfCommand result }
 {
     match ending {
         Ending::Done => Answer::Done,
@@ -66,6 +68,7 @@ pub fn run_seated<F: Files, O: Sink>(
     requires accepted { (states : List State) × (verdict.now ≡ Accepted states choices.now) }
     ensures serves { IsTrue F.tells → first_missing (F.holds files.old) shaped.now.flow.ops ≡ None → Serves (AcceptedRuns (F.holds files.old) shaped.now nodes verdict.now) (F.holds files.old) (F.holds files.new) O.tells (O.held out.old) (O.held out.new) (Rose (F.faults files.old) (F.faults files.new)) (Rose (O.faults out.old) (O.faults out.new)) result }
     ensures device { result ≡ Answer.Device → Rose (F.faults files.old) (F.faults files.new) ⊎ Rose (O.faults out.old) (O.faults out.new) }
+    ensures command { IsOfCommand result }
 {
     osh_sound::flows_can_be_shaped();
     let players = match seated(shaped, choices, nodes) {

@@ -4,7 +4,7 @@ ghost use Rattle.std.specs.Prelude.{◌≡◌, ◌<◌, None, IsTrue, IfOk, IfEr
 ghost use Rattle.ds_port.specs.Causes.{HasCause};
 ghost use Rattle.osh_ends.specs.Ends.{RunsFile};
 ghost use Rattle.osh_ends.specs.FlowFiles.{first_missing};
-ghost use Rattle.osh_call.specs.Answers.{Halts};
+ghost use Rattle.osh_call.specs.Answers.{Halts, IsOfCommand};
 ghost use Rattle.osh_call.specs.Stages.{IsRead, IsBuiltShape};
 ghost use Rattle.osh_run.specs.Stages.{AreTexts, IsPrepared};
 
@@ -33,6 +33,7 @@ fn texts<F: Files>(
     ensures some { IfOk result (λ texts. 0 < texts.1) }
     ensures found { IsTrue F.tells → IfOk result (λ texts. AreTexts (F.holds files.old) flow.now config.now texts.0 texts.1) }
     ensures stops { IsTrue F.tells → IfErr result (Halts (RunsFile (F.holds files.old) flow.now config.now)) }
+    ensures command { IfErr result IsOfCommand }
     ensures same { F.holds files.new ≡ F.holds files.old }
     ensures cause { HasCause (F.faults files.old) (F.faults files.new) (result ≡ Err Answer.Device) }
 {
@@ -57,6 +58,7 @@ fn shape_on<F: Files>(
     ensures some { IfOk result (λ p. 0 < p.nodes) }
     ensures found { IsTrue F.tells → IfOk result (λ p. IsPrepared (F.holds files.old) flow.now config.now p.shaped p.nodes) }
     ensures stops { IsTrue F.tells → IfErr result (Halts (RunsFile (F.holds files.old) flow.now config.now)) }
+    ensures command { IfErr result IsOfCommand }
     ensures same { F.holds files.new ≡ F.holds files.old }
     ensures cause { HasCause (F.faults files.old) (F.faults files.new) (result ≡ Err Answer.Device) }
 {
@@ -83,6 +85,7 @@ pub fn prepare<F: Files>(
     ensures found { IsTrue F.tells → IfOk result (λ p. IsPrepared (F.holds files.old) flow.now config.now p.shaped p.nodes) }
     ensures there { IsTrue F.tells → IfOk result (λ p. first_missing (F.holds files.old) p.shaped.flow.ops ≡ None) }
     ensures stops { IsTrue F.tells → IfErr result (Halts (RunsFile (F.holds files.old) flow.now config.now)) }
+    ensures command { IfErr result IsOfCommand }
     ensures same { F.holds files.new ≡ F.holds files.old }
     ensures cause { HasCause (F.faults files.old) (F.faults files.new) (result ≡ Err Answer.Device) }
 {

@@ -1,6 +1,7 @@
 use Rattle.std.proofs.Common.{map, string_bytes, ◌⊎◌}
 use Rattle.ds_port.specs.Causes.{Rose}
 use Rattle.osh.proofs.Ending.{runs_complete, runs_exact, said_calls}
+use Rattle.osh.proofs.Words.{words_decide}
 use Rattle.osh.proofs.still.osh_still.Goals as goal
 
 pub returns-clause-calls : goal.returns-clause-calls
@@ -17,3 +18,7 @@ pub returns-clause-complete : goal.returns-clause-complete
 returns-clause-complete g c = λ tells.
     let call = returns-clause-calls g c tells in
     runs_complete (map string_bytes c.args.words.now) (g.F.Files.holds c.args.files.now) (g.F.Files.holds c.serve-answer.new.files) g.O.Sink.tells _ _ _ _ (call.0) c.status.result c.one_status.ensures (call.1)
+
+pub returns-clause-words : goal.returns-clause-words
+returns-clause-words g c =
+    words_decide (map string_bytes c.args.words.now) c.serve-answer.result c.say-said.result c.status.result c.serve-answer.ensures.none c.serve-answer.ensures.only c.serve-answer.ensures.unbuilt c.say-said.ensures.said c.status.ensures

@@ -29,5 +29,5 @@ returns-in-Ok-run_accepted-clause-serves g c = λ tells there.
     let out_rose = Rose (g.O.Sink.faults c.args.out.now) (g.O.Sink.faults c.run_accepted.new.out) in
     let states = c.requires.accepted.0 in
     let is = c.requires.accepted.1 in
-    subst (Serves (AcceptedRuns old c.args.shaped.now c.args.nodes c.args.verdict.now) old new g.O.Sink.tells out_old out_new files_rose out_rose) (sym c.answer_of.ensures)
+    subst (Serves (AcceptedRuns old c.args.shaped.now c.args.nodes c.args.verdict.now) old new g.O.Sink.tells out_old out_new files_rose out_rose) (sym c.answer_of.ensures.answer)
     (run_serves old new c.args.shaped.now c.args.nodes c.in-Ok.players c.args.verdict.now states c.args.choices.now g.O.Sink.tells out_old out_new files_rose out_rose c.in-Ok-run_accepted.ending is c.in-Ok.ensures.seats (c.in-Ok-run_accepted.ensures.ends tells states is))
