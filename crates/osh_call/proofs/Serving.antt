@@ -6,7 +6,8 @@ use Rattle.flow_rules.specs.declared.verdict.Verdict.{Verdict}
 use Rattle.flow_rules.specs.declared.verdict.Verdict.TheVariants.{Accepted, Refused}
 use Rattle.flow_rules.specs.Verdicts.{IsVerdict}
 use Rattle.osh_ends.specs.Ends.{End, usage, unbuilt, bad_flow, bad_config, bad_shape, absent, mismatch, crowded, verdict_end, Checks, ChecksFile, FlowIn, NodesIn, Shapes}
-use Rattle.osh_ends.specs.Leaves.{Broke, Leaves, with_files, outputs, printed}
+use Rattle.flow_outputs.specs.Outputs.{with_files}
+use Rattle.osh_ends.specs.Leaves.{Broke, Leaves, outputs, printed}
 use Rattle.osh_ends.specs.Steps.{Reads}
 use Rattle.osh_ends.specs.Reports.{verdict_report}
 use Rattle.osh_call.specs.declared.answer.Answer.{Answer}

@@ -11,6 +11,7 @@ use Rattle.config_read.specs.Pools.{default_count}
 use Rattle.config_read.specs.First.{IsSpelled, IsFirstFault}
 use Rattle.flow_files.specs.Tallies.{IsLeast}
 use Rattle.flow_files.specs.Texts.{exported_text}
+use Rattle.flow_outputs.specs.Outputs.{NamedFile}
 use Rattle.flow_graph.specs.declared.flow.Flow.{Flow}
 use Rattle.flow_graph.specs.declared.op_kind.OpKind.{OpKind}
 use Rattle.flow_graph.specs.declared.op_kind.OpKind.TheVariants as kind
@@ -37,10 +38,6 @@ use Rattle.osh_ends.specs.Built.{is_built}
 use Rattle.osh_ends.specs.FlowFiles.{IsMeaning, first_missing, form, input_of, fields_of}
 use Rattle.osh_ends.specs.Reports.{verdict_report, report, fault_report}
 use Rattle.osh_ends.specs.Steps.{Reads, Spelled}
-
--- a file's name, and what it holds
-abbrev pub NamedFile : Type 0
-NamedFile = List ℕ × List ℕ
 
 -- words that are no command; a command or a part of a flow that isn't built; faults of the texts and of the shape; a file that isn't there;
 -- a flow that is refused, and one that is sound, each with the report; degrees or players that can't be; files that are written, and the report; the report of faults

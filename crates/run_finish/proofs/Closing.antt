@@ -11,7 +11,7 @@ use Rattle.op_base.specs.Emits.{counted}
 use Rattle.op_base.specs.Faults.{fault_cmp}
 use Rattle.op_base.specs.Lists.{joined}
 use Rattle.ds_port.specs.Causes.{Rose}
-use Rattle.ds_port.specs.FileMap.{FileMap, with_file}
+use Rattle.ds_port.specs.FileMap.{FileMap}
 use Rattle.flow_files.specs.declared.tally.Tally.{Tally}
 use Rattle.flow_files.specs.Tallies.{Grows, IsLeast, IsLeastOf, Tallies}
 use Rattle.flow_graph.specs.declared.route.Choice.{Choice}
@@ -19,15 +19,14 @@ use Rattle.flow_graph.specs.declared.state.State.{State}
 use Rattle.flow_graph.specs.Charts.{Chart, op_at}
 use Rattle.flow_graph.specs.Runs.{meant_faults}
 use Rattle.flow_rules.specs.Verdicts.{nodes_of}
-use Rattle.flow_outputs.specs.Outputs as outputs
-use Rattle.flow_outputs.specs.Outputs.{MakesSome}
+use Rattle.flow_outputs.specs.Outputs.{MakesSome, NamedFile, with_files}
 use Rattle.flow_shape.specs.Refusals.{all_ops}
 use Rattle.flow_sound.specs.Tallies.{faults_before, faults_written, tallied}
 use Rattle.flow_sound.proofs.Members.{all_permuted}
 use Rattle.flow_sound.proofs.Tallying.{run_tallied}
 use Rattle.list_run.specs.declared.ran.Ran.{Ran}
-use Rattle.osh_ends.specs.Ends.{Finishes, MeetsGrades, NamedFile, RunsTo, done, faulty, files_of}
-use Rattle.osh_ends.specs.Leaves.{Leaves, with_files}
+use Rattle.osh_ends.specs.Ends.{Finishes, MeetsGrades, RunsTo, done, faulty, files_of}
+use Rattle.osh_ends.specs.Leaves.{Leaves}
 use Rattle.osh_ends.specs.Reports.{fault_report, report}
 use Rattle.run_finish.specs.Endings.{Delivers, Refuses}
 use Rattle.run_finish.specs.Finished.{Ends, IsRun}
@@ -39,12 +38,8 @@ use Rattle.run_finish.proofs.Reporting.{faults_cut}
 
 -- ---- what is made
 
-same_files : (files : FileMap) (fs : List NamedFile) → outputs.with_files files fs ≡ with_files files fs
-same_files files [] = refl
-same_files files (f ∷ fs) = same_files (with_file files (f.0) (f.1)) fs
-
 pub some_left : (old new : FileMap) (all : List NamedFile) (tells : Bool) (out : List ℕ) → MakesSome old new all → (made : List NamedFile) × (failed : NamedFile) × (behind : List NamedFile) × (all ≡ made ++ failed ∷ behind) × Leaves (with_files old made) new tells out out []
-some_left old new all tells out m = (m.made, m.failed, m.behind, m.all_are, record { files_are = m.files ∙ same_files old m.made; out = λ t. sym (append-nil out) })
+some_left old new all tells out m = (m.made, m.failed, m.behind, m.all_are, record { files_are = m.files; out = λ t. sym (append-nil out) })
 
 pub on_err : {A B : Type 0} (r : Result A B) (P : Type 0) → true ≡ is_err r → OnErr r P → P
 on_err (Ok x) P e h = absurd (cc)

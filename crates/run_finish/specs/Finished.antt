@@ -10,13 +10,14 @@ use Rattle.flow_graph.specs.declared.state.State.{State}
 use Rattle.flow_graph.specs.Charts.{Chart, op_at}
 use Rattle.flow_graph.specs.Operators.{Op}
 use Rattle.flow_graph.specs.Runs.{Lists}
+use Rattle.flow_outputs.specs.Outputs.{NamedFile, with_files}
 use Rattle.flow_sound.specs.Kinds.{IsExport, first_into}
 use Rattle.flow_sound.specs.Promise.{AcceptedRun}
 use Rattle.flow_sound.specs.Tallies.{faults_before}
 use Rattle.list_run.specs.declared.ran.Ran.{Ran}
-use Rattle.osh_ends.specs.Ends.{MeetsGrades, NamedFile, RunsTo, done, faulty}
+use Rattle.osh_ends.specs.Ends.{MeetsGrades, RunsTo, done, faulty}
 use Rattle.osh_ends.specs.FlowFiles.{IsMeaning}
-use Rattle.osh_ends.specs.Leaves.{Broke, Leaves, with_files}
+use Rattle.osh_ends.specs.Leaves.{Broke, Leaves}
 use Rattle.run_finish.specs.declared.ending.Ending.{Ending}
 use Rattle.run_finish.specs.declared.ending.Ending.TheVariants as ending
 use Rattle.run_finish.specs.Reported.{AreCounts}
