@@ -17,7 +17,7 @@ use Rattle.flow_graph.specs.Runs.{FitsShape, Lists, Means, Runs, meant_faults, r
 use Rattle.flow_rules.specs.declared.verdict.Verdict.TheVariants.{Accepted}
 use Rattle.flow_rules.specs.Soundness.{Keeps}
 use Rattle.flow_derive.specs.LinkStates.{choice_at, state_at}
-use Rattle.flow_rules.specs.Verdicts.{FormsAre, IsVerdict, nodes_of}
+use Rattle.flow_rules.specs.Verdicts.{FormsAre, IsVerdictBy, nodes_of}
 use Rattle.flow_shape.specs.Refusals.{IsShapeOf}
 use Rattle.flow_sound.specs.Kinds.{AreOfKinds, IsExport, first_into}
 
@@ -50,7 +50,7 @@ sort_at c l = (choice_at c l).sort
 -- a flow that is accepted, by refining with regain or without, what it means, and a legal run of it
 pub record AcceptedRun (regains : Bool) (flow : Flow) (dict : List Stored) (c : Chart) (states : List State) (choices : List Choice) (ops : ℕ → Op) (whole : ℕ → List Row) (run : Lists) : Type 0 where
   pub shaped : ShapedFlow flow dict c ops
-  pub verdict : IsVerdict regains c (Accepted states choices)
+  pub verdict : IsVerdictBy regains c (Accepted states choices)
   pub means : AllByRecursion (Means whole) (nodes_of c ops)
   pub legal : AllByRecursion (Runs (sort_at c) run) (nodes_of c ops)
 

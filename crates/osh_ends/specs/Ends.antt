@@ -85,7 +85,7 @@ verdict_end c (Accepted states choices) = checked (verdict_report c (Accepted st
 verdict_end c (Refused link need have) = refused (verdict_report c (Refused link need have))
 
 abbrev pub Checks : Chart → End → Type 0
-Checks c end = (v : Verdict) × IsVerdict false c v × (end ≡ verdict_end c v)
+Checks c end = (v : Verdict) × IsVerdict c v × (end ≡ verdict_end c v)
 
 -- ---- a run
 
@@ -129,7 +129,7 @@ AcceptedRuns files c nodes (Accepted states choices) end = SeatsOn c choices nod
 AcceptedRuns files c nodes (Refused link need have) end = end ≡ refused (verdict_report c (Refused link need have))
 
 abbrev pub VerdictRuns : FileMap → Chart → ℕ → End → Type 0
-VerdictRuns files c nodes end = (v : Verdict) × IsVerdict false c v × AcceptedRuns files c nodes v end
+VerdictRuns files c nodes end = (v : Verdict) × IsVerdict c v × AcceptedRuns files c nodes v end
 
 -- ---- commands
 

@@ -1,5 +1,5 @@
 -- The ends of runs.
-use Rattle.std.proofs.Common.{◌≡◌, ◌≢◌, inl, inr, ℕ, Bool, false, List, [], ◌∷◌, ◌++◌, length, refl, sym, ap, subst, ◌∙◌, append-nil, arith, flat_map, IsPermutation}
+use Rattle.std.proofs.Common.{◌≡◌, ◌≢◌, inl, inr, ℕ, Bool, List, [], ◌∷◌, ◌++◌, length, refl, sym, ap, subst, ◌∙◌, append-nil, arith, flat_map, IsPermutation}
 use Rattle.std.specs.Prelude.{◌≤◌, Option, Some, None, Result, Ok, Err, IsErr, true}
 use Rattle.std.specs.Result.{OnErr, is_err}
 use Rattle.std.specs.List.{Contains}
@@ -18,7 +18,7 @@ use Rattle.flow_graph.specs.declared.route.Choice.{Choice}
 use Rattle.flow_graph.specs.declared.state.State.{State}
 use Rattle.flow_graph.specs.Charts.{Chart, op_at}
 use Rattle.flow_graph.specs.Runs.{meant_faults}
-use Rattle.flow_rules.specs.Verdicts.{nodes_of}
+use Rattle.flow_rules.specs.Verdicts.{nodes_of, infer_regains}
 use Rattle.flow_outputs.specs.Outputs.{MakesSome, NamedFile, with_files}
 use Rattle.flow_shape.specs.Refusals.{all_ops}
 use Rattle.flow_sound.specs.Tallies.{faults_before, faults_written, tallied}
@@ -76,7 +76,7 @@ pub meant_tallied : (files : FileMap) (c : Chart) (states : List State) (choices
     → Grows old new (flat_map (faults_written c r.ops (λ l. joined (r.run.got l))) (all_ops c)) → Tallies (meant_faults r.whole (nodes_of c r.ops)) new
 meant_tallied files c states choices ran old new r g =
     tallies_permuted (tallied c r.ops (λ l. joined (r.run.got l))) (meant_faults r.whole (nodes_of c r.ops)) new
-    (run_tallied false c.flow [] c states choices r.ops r.whole r.run r.accepted)
+    (run_tallied infer_regains c.flow [] c states choices r.ops r.whole r.run r.accepted)
     (g (faults_before c r.ops (λ l. joined (r.run.got l))) r.tally)
 
 done_end : (c : Chart) (states : List State) (choices : List Choice) (nodes : ℕ) (whole : ℕ → List Row) (parts : ℕ → List (List Row)) (fs : List Fault) → fs ≡ [] → MeetsGrades c states whole parts

@@ -1,5 +1,5 @@
 -- The end of a run whose lists are done.
-use Rattle.std.specs.Prelude.{◌≡◌, ◌<◌, ℕ, Bool, false, List, [], length}
+use Rattle.std.specs.Prelude.{◌≡◌, ◌<◌, ℕ, Bool, List, [], length}
 use Rattle.ds_port.specs.FileMap.{FileMap}
 use Rattle.op_base.specs.Columns.{Row}
 use Rattle.op_base.specs.Lists.{joined}
@@ -11,6 +11,7 @@ use Rattle.flow_graph.specs.Charts.{Chart, op_at}
 use Rattle.flow_graph.specs.Operators.{Op}
 use Rattle.flow_graph.specs.Runs.{Lists}
 use Rattle.flow_outputs.specs.Outputs.{NamedFile, with_files}
+use Rattle.flow_rules.specs.Verdicts.{infer_regains}
 use Rattle.flow_sound.specs.Kinds.{IsExport, first_into}
 use Rattle.flow_sound.specs.Promise.{AcceptedRun}
 use Rattle.flow_sound.specs.Tallies.{faults_before}
@@ -29,7 +30,7 @@ pub record IsRun (files : FileMap) (c : Chart) (states : List State) (choices : 
   pub whole : ℕ → List Row
   pub run : Lists
   pub meaning : IsMeaning files c ops whole
-  pub accepted : AcceptedRun false c.flow [] c states choices ops whole run
+  pub accepted : AcceptedRun infer_regains c.flow [] c states choices ops whole run
   pub counts : AreCounts c whole ran.counts
   pub sinks : (o : ℕ) → o < length c.flow.ops → IsExport (op_at c o).kind → sink_at ran.sinks o ≡ run.got (first_into c o)
   pub grades : MeetsGrades c states whole run.got
