@@ -21,6 +21,7 @@ use Rattle.flow_graph.specs.Charts.{Chart, op_at, width_at}
 use Rattle.flow_graph.specs.Grades.{grade, Meets}
 use Rattle.flow_graph.specs.Operators.{Op}
 use Rattle.flow_graph.specs.Runs.{meant_faults}
+use Rattle.flow_rules.specs.Exports.{IsExport, input_of}
 use Rattle.flow_rules.specs.declared.verdict.Verdict.{Verdict}
 use Rattle.flow_rules.specs.declared.verdict.Verdict.TheVariants.{Accepted, Refused}
 use Rattle.flow_derive.specs.LinkStates.{state_at}
@@ -35,7 +36,7 @@ use Rattle.osh_words.specs.declared.command.Command.{Command}
 use Rattle.osh_words.specs.declared.command.Command.TheVariants as command
 use Rattle.osh_words.specs.Spelled.{Spells}
 use Rattle.osh_ends.specs.Built.{is_built}
-use Rattle.osh_ends.specs.FlowFiles.{IsMeaning, first_missing, form, input_of, fields_of}
+use Rattle.osh_ends.specs.FlowFiles.{IsMeaning, first_missing, form, fields_of}
 use Rattle.osh_ends.specs.Reports.{verdict_report, report, fault_report}
 use Rattle.osh_ends.specs.Steps.{Reads, Spelled}
 
@@ -97,10 +98,6 @@ file_of c parts o k = []
 -- the files of all exports, by operator number, from the rows in the partitions of each link
 abbrev pub files_of : Chart → (ℕ → List (List Row)) → List NamedFile
 files_of c parts = flat_map (λ o. file_of c parts o (op_at c o).kind) (range_with_len 0 (length c.flow.ops))
-
-abbrev pub IsExport : OpKind → Type 0
-IsExport (kind.Export file delim fixed) = Unit {0}
-IsExport k = ⊥
 
 -- what comes at each export is the meaning's, for every key of the grade that is printed for it
 abbrev pub MeetsGrades : Chart → List State → (ℕ → List Row) → (ℕ → List (List Row)) → Type 0

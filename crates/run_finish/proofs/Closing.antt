@@ -16,7 +16,7 @@ use Rattle.flow_files.specs.declared.tally.Tally.{Tally}
 use Rattle.flow_files.specs.Tallies.{Grows, IsLeast, IsLeastOf, Tallies}
 use Rattle.flow_graph.specs.declared.route.Choice.{Choice}
 use Rattle.flow_graph.specs.declared.state.State.{State}
-use Rattle.flow_graph.specs.Charts.{Chart, op_at}
+use Rattle.flow_graph.specs.Charts.{Chart}
 use Rattle.flow_graph.specs.Runs.{meant_faults}
 use Rattle.flow_rules.specs.Verdicts.{nodes_of, infer_regains}
 use Rattle.flow_outputs.specs.Outputs.{MakesSome, NamedFile, with_files}
@@ -33,7 +33,6 @@ use Rattle.run_finish.specs.Finished.{Ends, IsRun}
 use Rattle.run_finish.specs.Written.{ComeAt}
 use Rattle.run_finish.specs.declared.ending.Ending.{Ending}
 use Rattle.run_finish.specs.declared.ending.Ending.TheVariants as ending
-use Rattle.run_finish.proofs.Exporting.{is_export}
 use Rattle.run_finish.proofs.Reporting.{faults_cut}
 
 -- ---- what is made
@@ -69,7 +68,7 @@ pub tallies_permuted : (xs ys : List Fault) (t : Tally) → IsPermutation xs ys 
 tallies_permuted xs ys t p h = record { number = h.number ∙ ap (counted 0) (sym (length_permutation xs ys p)); least = least_permuted xs ys t.least p h.least }
 
 pub come : (files : FileMap) (c : Chart) (states : List State) (choices : List Choice) (ran : Ran) (tally : Tally) (r : IsRun files c states choices ran tally) → ComeAt c ran.sinks r.run.got
-come files c states choices ran tally r o b e = r.sinks o b (is_export (op_at c o).kind e)
+come files c states choices ran tally r o b e = r.sinks o b e
 
 -- all faults of the meaning are tallied, when those of the exports were
 pub meant_tallied : (files : FileMap) (c : Chart) (states : List State) (choices : List Choice) (ran : Ran) (old new : Tally) (r : IsRun files c states choices ran old)

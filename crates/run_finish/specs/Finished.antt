@@ -11,8 +11,8 @@ use Rattle.flow_graph.specs.Charts.{Chart, op_at}
 use Rattle.flow_graph.specs.Operators.{Op}
 use Rattle.flow_graph.specs.Runs.{Lists}
 use Rattle.flow_outputs.specs.Outputs.{NamedFile, with_files}
+use Rattle.flow_rules.specs.Exports.{IsExport, input_of}
 use Rattle.flow_rules.specs.Verdicts.{infer_regains}
-use Rattle.flow_sound.specs.Kinds.{IsExport, first_into}
 use Rattle.flow_sound.specs.Promise.{AcceptedRun}
 use Rattle.flow_sound.specs.Tallies.{faults_before}
 use Rattle.list_run.specs.declared.ran.Ran.{Ran}
@@ -32,7 +32,7 @@ pub record IsRun (files : FileMap) (c : Chart) (states : List State) (choices : 
   pub meaning : IsMeaning files c ops whole
   pub accepted : AcceptedRun infer_regains c.flow [] c states choices ops whole run
   pub counts : AreCounts c whole ran.counts
-  pub sinks : (o : ℕ) → o < length c.flow.ops → IsExport (op_at c o).kind → sink_at ran.sinks o ≡ run.got (first_into c o)
+  pub sinks : (o : ℕ) → o < length c.flow.ops → IsExport (op_at c o).kind → sink_at ran.sinks o ≡ run.got (input_of c o)
   pub grades : MeetsGrades c states whole run.got
   pub tally : Tallies (faults_before c ops (λ l. joined (run.got l))) found
 
