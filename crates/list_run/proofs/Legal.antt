@@ -21,6 +21,7 @@ use Rattle.flow_graph.specs.RowRules.{if_worked, row_rule}
 use Rattle.flow_graph.specs.Runs.{Lists, Runs, Gives, Delivers, FitsDegree, faults_on, slice}
 use Rattle.flow_graph.proofs.StateLaws.{each_part}
 use Rattle.flow_derive.specs.LinkStates.{choice_at}
+use Rattle.flow_rules.specs.Exports.{input_of}
 use Rattle.flow_rules.specs.Verdicts.{node_at, out_at}
 use Rattle.list_run.specs.declared.held.Held.{Held}
 use Rattle.list_run.specs.declared.ran.Ran.{Ran}
@@ -28,7 +29,7 @@ use Rattle.list_run.specs.Found.{found_in}
 use Rattle.list_run.specs.Held.{found_at, sent_by, sent_from}
 use Rattle.list_run.specs.Made.{made}
 use Rattle.list_run.specs.Routed.{Joins, routed}
-use Rattle.list_run.specs.Runnable.{degree_at, first_into, row_count, IsBuilt, IsRunnable, IsRunOf, OpIs, OpsAre, worked_faults}
+use Rattle.list_run.specs.Runnable.{degree_at, row_count, IsBuilt, IsRunnable, IsRunOf, OpIs, OpsAre, worked_faults}
 use Rattle.list_run.specs.Turns.{HadTurn, Stands, found_after, got_in, sent_in}
 use Rattle.list_run.proofs.Dealing.{map_same}
 use Rattle.list_run.proofs.Inputs.{ports_at}
@@ -56,30 +57,30 @@ no_member [] e = refl
 no_member (x ∷ xs) e = absurd (omega (arith, e))
 
 -- an operator by rows
-rule_gives : (c : Chart) (nodes : ℕ) (o l : ℕ) (k : OpKind) (op : Op) (G : ℕ → List (List Row)) → op ≡ by_row (row_rule o k (parts_of c o)) → links_into c o ≡ first_into c o ∷ [] → ((i : ℕ) → IsIn i (links_into c o) → length (G i) ≡ degree_at c nodes o) →
-    Gives op (link_at c l).out (map G (links_into c o)) (degree_at c nodes o) (map (λ rows. flat_map ((row_rule o k (parts_of c o)).rows (link_at c l).out) rows) (G (first_into c o)))
+rule_gives : (c : Chart) (nodes : ℕ) (o l : ℕ) (k : OpKind) (op : Op) (G : ℕ → List (List Row)) → op ≡ by_row (row_rule o k (parts_of c o)) → links_into c o ≡ input_of c o ∷ [] → ((i : ℕ) → IsIn i (links_into c o) → length (G i) ≡ degree_at c nodes o) →
+    Gives op (link_at c l).out (map G (links_into c o)) (degree_at c nodes o) (map (λ rows. flat_map ((row_rule o k (parts_of c o)).rows (link_at c l).out) rows) (G (input_of c o)))
 rule_gives c nodes o l k op G is one long =
     let q = (link_at c l).out in
     let rule = row_rule o k (parts_of c o) in
     let make : List Row → List Row = λ rows. flat_map (rule.rows q) rows in
-    subst (λ (p : Op). Gives p q (map G (links_into c o)) (degree_at c nodes o) (map make (G (first_into c o)))) (sym is)
-    (subst (λ ins. Gives (by_row rule) q (map G ins) (degree_at c nodes o) (map make (G (first_into c o)))) (sym one)
-    (each_is make make (λ rows. refl) (G (first_into c o)) (degree_at c nodes o) (long (first_into c o) (subst (IsIn (first_into c o)) (sym one) (inl refl)))))
+    subst (λ (p : Op). Gives p q (map G (links_into c o)) (degree_at c nodes o) (map make (G (input_of c o)))) (sym is)
+    (subst (λ ins. Gives (by_row rule) q (map G ins) (degree_at c nodes o) (map make (G (input_of c o)))) (sym one)
+    (each_is make make (λ rows. refl) (G (input_of c o)) (degree_at c nodes o) (long (input_of c o) (subst (IsIn (input_of c o)) (sym one) (inl refl)))))
 
 -- and its faults, on all partitions
-rule_finds : (c : Chart) (nodes : ℕ) (o : ℕ) (k : OpKind) (op : Op) (G : ℕ → List (List Row)) → op ≡ by_row (row_rule o k (parts_of c o)) → links_into c o ≡ first_into c o ∷ [] → ((i : ℕ) → IsIn i (links_into c o) → length (G i) ≡ degree_at c nodes o) →
-    joined (map (λ p. faults_on op p (slice p (map G (links_into c o)))) (range_with_len 0 (degree_at c nodes o))) ≡ flat_map (flat_map (row_rule o k (parts_of c o)).faults) (G (first_into c o))
+rule_finds : (c : Chart) (nodes : ℕ) (o : ℕ) (k : OpKind) (op : Op) (G : ℕ → List (List Row)) → op ≡ by_row (row_rule o k (parts_of c o)) → links_into c o ≡ input_of c o ∷ [] → ((i : ℕ) → IsIn i (links_into c o) → length (G i) ≡ degree_at c nodes o) →
+    joined (map (λ p. faults_on op p (slice p (map G (links_into c o)))) (range_with_len 0 (degree_at c nodes o))) ≡ flat_map (flat_map (row_rule o k (parts_of c o)).faults) (G (input_of c o))
 rule_finds c nodes o k op G is one long =
     let find : List Row → List Fault = flat_map (row_rule o k (parts_of c o)).faults in
-    let parts = G (first_into c o) in
+    let parts = G (input_of c o) in
     ap (λ (p : Op). joined (map (λ i. faults_on p i (slice i (map G (links_into c o)))) (range_with_len 0 (degree_at c nodes o)))) is
     ∙ ap (λ ins. joined (map (λ i. faults_on (by_row (row_rule o k (parts_of c o))) i (slice i (map G ins))) (range_with_len 0 (degree_at c nodes o)))) one
-    ∙ ap (λ n. joined (map (λ i. find (get_or parts i [])) (range_with_len 0 n))) (sym (long (first_into c o) (subst (IsIn (first_into c o)) (sym one) (inl refl))))
+    ∙ ap (λ n. joined (map (λ i. find (get_or parts i [])) (range_with_len 0 n))) (sym (long (input_of c o) (subst (IsIn (input_of c o)) (sym one) (inl refl))))
     ∙ ap joined (each_part find parts)
     ∙ flat_map-map (λ fs. fs) find parts
 
 kind_finds : (c : Chart) (nodes : ℕ) (given : List (List Row)) (o : ℕ) (k : OpKind) (op : Op) (G : ℕ → List (List Row)) → IsShape c → o < length c.flow.ops → (op_at c o).kind ≡ k → IsBuilt c o k → OpIs c given o op k → ((i : ℕ) → IsIn i (links_into c o) → length (G i) ≡ degree_at c nodes o) →
-    found_in o k (parts_of c o) (G (first_into c o)) ≡ if_worked k (joined (map (λ p. faults_on op p (slice p (map G (links_into c o)))) (range_with_len 0 (degree_at c nodes o))))
+    found_in o k (parts_of c o) (G (input_of c o)) ≡ if_worked k (joined (map (λ p. faults_on op p (slice p (map G (links_into c o)))) (range_with_len 0 (degree_at c nodes o))))
 kind_finds c nodes given o (kind.Import file schema delim fixed reject) op G shape m e b is long = refl
 kind_finds c nodes given o (kind.Export file delim fixed) op G shape m e b is long = refl
 kind_finds c nodes given o kind.Copy op G shape m e b is long = refl
@@ -93,7 +94,7 @@ kind_finds c nodes given o k op G shape m e b is long = absurd b
 
 -- what an operator gives is what is sent, by its kind
 kind_gives : (c : Chart) (nodes : ℕ) (given : List (List Row)) (o l : ℕ) (k : OpKind) (op : Op) (G : ℕ → List (List Row)) → IsShape c → o < length c.flow.ops → (op_at c o).kind ≡ k → IsBuilt c o k → OpIs c given o op k → IsIn l (links_from c o) →
-    ((i : ℕ) → IsIn i (links_into c o) → length (G i) ≡ degree_at c nodes o) → Gives op (link_at c l).out (map G (links_into c o)) (degree_at c nodes o) (sent_by o k (parts_of c o) (link_at c l).out (G (first_into c o)) (get_or given l []))
+    ((i : ℕ) → IsIn i (links_into c o) → length (G i) ≡ degree_at c nodes o) → Gives op (link_at c l).out (map G (links_into c o)) (degree_at c nodes o) (sent_by o k (parts_of c o) (link_at c l).out (G (input_of c o)) (get_or given l []))
 kind_gives c nodes given o l (kind.Import file schema delim fixed reject) op G shape m e b is i long =
     let q = (link_at c l).out in
     let imported = is.0.3 in
@@ -105,9 +106,9 @@ kind_gives c nodes given o l (kind.Export file delim fixed) op G shape m e b is 
 kind_gives c nodes given o l kind.Copy op G shape m e b is i long =
     let q = (link_at c l).out in
     let one = one_member (links_into c o) (ports_at c shape o m kind.Copy e) in
-    subst (λ (p : Op). Gives p q (map G (links_into c o)) (degree_at c nodes o) (map (made kind.Copy (keys_at c o)) (G (first_into c o)))) (sym is)
-    (subst (λ ins. Gives (by_row copy_rule) q (map G ins) (degree_at c nodes o) (map (made kind.Copy (keys_at c o)) (G (first_into c o)))) (sym one)
-    (each_is (λ rows. rows) (λ rows. flat_map (λ r. r ∷ []) rows) (λ rows. sym (flat_single rows)) (G (first_into c o)) (degree_at c nodes o) (long (first_into c o) (subst (IsIn (first_into c o)) (sym one) (inl refl)))))
+    subst (λ (p : Op). Gives p q (map G (links_into c o)) (degree_at c nodes o) (map (made kind.Copy (keys_at c o)) (G (input_of c o)))) (sym is)
+    (subst (λ ins. Gives (by_row copy_rule) q (map G ins) (degree_at c nodes o) (map (made kind.Copy (keys_at c o)) (G (input_of c o)))) (sym one)
+    (each_is (λ rows. rows) (λ rows. flat_map (λ r. r ∷ []) rows) (λ rows. sym (flat_single rows)) (G (input_of c o)) (degree_at c nodes o) (long (input_of c o) (subst (IsIn (input_of c o)) (sym one) (inl refl)))))
 kind_gives c nodes given o l (kind.Filter test reject) op G shape m e b is i long = rule_gives c nodes o l (kind.Filter test reject) op G is (one_member (links_into c o) (ports_at c shape o m (kind.Filter test reject) e)) long
 kind_gives c nodes given o l (kind.Transform set reject) op G shape m e b is i long = rule_gives c nodes o l (kind.Transform set reject) op G is (one_member (links_into c o) (ports_at c shape o m (kind.Transform set reject) e)) long
 kind_gives c nodes given o l (kind.Modify keep drop rename) op G shape m e b is i long = rule_gives c nodes o l (kind.Modify keep drop rename) op G is (one_member (links_into c o) (ports_at c shape o m (kind.Modify keep drop rename) e)) long
@@ -116,16 +117,16 @@ kind_gives c nodes given o l (kind.Tsort key) op G shape m e b is i long =
     let q = (link_at c l).out in
     let one = one_member (links_into c o) (ports_at c shape o m (kind.Tsort key) e) in
     let keys = get_keys (keys_at c o) 0 in
-    subst (λ (p : Op). Gives p q (map G (links_into c o)) (degree_at c nodes o) (map (made (kind.Tsort key) (keys_at c o)) (G (first_into c o)))) (sym is)
-    (subst (λ ins. Gives (tsort keys) q (map G ins) (degree_at c nodes o) (map (made (kind.Tsort key) (keys_at c o)) (G (first_into c o)))) (sym one)
-    (each_is (made (kind.Tsort key) (keys_at c o)) (made (kind.Tsort key) (keys_at c o)) (λ rows. refl) (G (first_into c o)) (degree_at c nodes o) (long (first_into c o) (subst (IsIn (first_into c o)) (sym one) (inl refl)))))
+    subst (λ (p : Op). Gives p q (map G (links_into c o)) (degree_at c nodes o) (map (made (kind.Tsort key) (keys_at c o)) (G (input_of c o)))) (sym is)
+    (subst (λ ins. Gives (tsort keys) q (map G ins) (degree_at c nodes o) (map (made (kind.Tsort key) (keys_at c o)) (G (input_of c o)))) (sym one)
+    (each_is (made (kind.Tsort key) (keys_at c o)) (made (kind.Tsort key) (keys_at c o)) (λ rows. refl) (G (input_of c o)) (degree_at c nodes o) (long (input_of c o) (subst (IsIn (input_of c o)) (sym one) (inl refl)))))
 kind_gives c nodes given o l (kind.Remdup key last) op G shape m e b is i long =
     let q = (link_at c l).out in
     let one = one_member (links_into c o) (ports_at c shape o m (kind.Remdup key last) e) in
     let keys = get_keys (keys_at c o) 0 in
-    subst (λ (p : Op). Gives p q (map G (links_into c o)) (degree_at c nodes o) (map (made (kind.Remdup key last) (keys_at c o)) (G (first_into c o)))) (sym is)
-    (subst (λ ins. Gives (remdup last keys) q (map G ins) (degree_at c nodes o) (map (made (kind.Remdup key last) (keys_at c o)) (G (first_into c o)))) (sym one)
-    (each_is (made (kind.Remdup key last) (keys_at c o)) (made (kind.Remdup key last) (keys_at c o)) (λ rows. refl) (G (first_into c o)) (degree_at c nodes o) (long (first_into c o) (subst (IsIn (first_into c o)) (sym one) (inl refl)))))
+    subst (λ (p : Op). Gives p q (map G (links_into c o)) (degree_at c nodes o) (map (made (kind.Remdup key last) (keys_at c o)) (G (input_of c o)))) (sym is)
+    (subst (λ ins. Gives (remdup last keys) q (map G ins) (degree_at c nodes o) (map (made (kind.Remdup key last) (keys_at c o)) (G (input_of c o)))) (sym one)
+    (each_is (made (kind.Remdup key last) (keys_at c o)) (made (kind.Remdup key last) (keys_at c o)) (λ rows. refl) (G (input_of c o)) (degree_at c nodes o) (long (input_of c o) (subst (IsIn (input_of c o)) (sym one) (inl refl)))))
 kind_gives c nodes given o l k op G shape m e b is i long = absurd b
 
 kind_degree : (c : Chart) (nodes : ℕ) (given : List (List Row)) (o : ℕ) (k : OpKind) (op : Op) → IsBuilt c o k → OpIs c given o op k → FitsDegree op (degree_at c nodes o)
@@ -192,7 +193,7 @@ runs_at c choices nodes given ops r are o m = record {
     gives l i =
         let k = in_from c o l i in
         subst (λ (s : List (List Row)). Gives (ops o) (link_at c l).out (map (got_in c nodes given) (links_into c o)) (degree_at c nodes o) s)
-        (sym (ap (λ p. sent_from c l p (got_in c nodes given (first_into c p)) (get_or given l [])) k.1))
+        (sym (ap (λ p. sent_from c l p (got_in c nodes given (input_of c p)) (get_or given l [])) k.1))
         (kind_gives c nodes given o l (op_at c o).kind (ops o) (got_in c nodes given) r.shape m refl (r.run.built o m) (are o m) i long)
 
 take_all : (xs : List ℕ) → take (length xs) xs ≡ xs
@@ -205,7 +206,7 @@ had_all c o i = subst (IsIn o) (sym (take_all c.order)) i
 -- what is found in the order of the flow is what is found by the numbers of the operators
 all_found : (c : Chart) (choices : List Choice) (nodes : ℕ) (given : List (List Row)) (ops : ℕ → Op) → IsRunnable c choices nodes given → OpsAre c given ops → IsPermutation (found_after c nodes given (length c.order)) (worked_faults c (run_in c nodes given ops))
 all_found c choices nodes given ops r are =
-    let F : ℕ → List Fault = λ o. found_at c o (got_in c nodes given (first_into c o)) in
+    let F : ℕ → List Fault = λ o. found_at c o (got_in c nodes given (input_of c o)) in
     let n = length c.flow.ops in
     subst (λ os. IsPermutation (flat_map F os) (worked_faults c (run_in c nodes given ops))) (sym (take_all c.order))
     (subst (IsPermutation (flat_map F c.order)) (flat_members F (λ o. if_worked (op_at c o).kind (joined ((run_in c nodes given ops).failed o))) (range_with_len 0 n) each)
@@ -214,7 +215,7 @@ all_found c choices nodes given ops r are =
     long : (o l : ℕ) → IsIn l (links_into c o) → length (got_in c nodes given l) ≡ degree_at c nodes o
     long o l i = let k = in_into c o l i in (all_fit c choices nodes given r l k.0).1.0 ∙ ap (degree_at c nodes) k.1
 
-    each : (o : ℕ) → IsIn o (range_with_len 0 (length c.flow.ops)) → found_at c o (got_in c nodes given (first_into c o)) ≡ if_worked (op_at c o).kind (joined ((run_in c nodes given ops).failed o))
+    each : (o : ℕ) → IsIn o (range_with_len 0 (length c.flow.ops)) → found_at c o (got_in c nodes given (input_of c o)) ≡ if_worked (op_at c o).kind (joined ((run_in c nodes given ops).failed o))
     each o i = let m = all_in (length c.flow.ops) o i in kind_finds c nodes given o (op_at c o).kind (ops o) (got_in c nodes given) r.shape m refl (r.run.built o m) (are o m) (long o)
 
 pub is_run : (c : Chart) (choices : List Choice) (nodes : ℕ) (given rest : List (List Row)) (held : Held) (ran : Ran) → IsRunnable c choices nodes given → Stands c nodes given (length c.order) rest held → ran.counts ≡ held.counts.items → ran.sinks ≡ held.sinks.items → ran.faults ≡ held.tally.faults → ran.least ≡ held.tally.least →

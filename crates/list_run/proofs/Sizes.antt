@@ -21,7 +21,8 @@ use Rattle.list_run.specs.Found.{found_in}
 use Rattle.list_run.specs.Held.{sent_by, sent_from, sent_on, got_on}
 use Rattle.list_run.specs.Made.{made, made_for}
 use Rattle.list_run.specs.Routed.{Joins, routed}
-use Rattle.list_run.specs.Runnable.{degree_at, first_into, IsBuilt, IsRunnable}
+use Rattle.flow_rules.specs.Exports.{input_of}
+use Rattle.list_run.specs.Runnable.{degree_at, IsBuilt, IsRunnable}
 use Rattle.list_run.specs.Turns.{lists_after, got_in, sent_in}
 use Rattle.list_run.proofs.Links.{in_from, from_in}
 use Rattle.list_run.proofs.Inputs.{first_member, ports_at, only_input}
@@ -89,16 +90,16 @@ fed_as (kind.Changecapture key values keepcopy) P Q f h = f h
 fed_as (kind.Funnel sequence sort) P Q f h = f h
 
 -- the input of an operator that has one leaves an operator before it
-pub input_seen : (c : Chart) (o : ℕ) (k : OpKind) → IsShape c → o < length c.flow.ops → (op_at c o).kind ≡ k → IsBuilt c o k → (seen : List ℕ) → Lies (links_into c o) seen → Fed k (IsIn (first_into c o) seen)
+pub input_seen : (c : Chart) (o : ℕ) (k : OpKind) → IsShape c → o < length c.flow.ops → (op_at c o).kind ≡ k → IsBuilt c o k → (seen : List ℕ) → Lies (links_into c o) seen → Fed k (IsIn (input_of c o) seen)
 input_seen c o (kind.Import file schema delim fixed reject) shape m e b seen lies = tt
-input_seen c o (kind.Export file delim fixed) shape m e b seen lies = lies_in (links_into c o) seen (first_into c o) lies (first_member (links_into c o) (ports_at c shape o m (kind.Export file delim fixed) e))
-input_seen c o kind.Copy shape m e b seen lies = lies_in (links_into c o) seen (first_into c o) lies (first_member (links_into c o) (ports_at c shape o m kind.Copy e))
-input_seen c o (kind.Filter test reject) shape m e b seen lies = lies_in (links_into c o) seen (first_into c o) lies (first_member (links_into c o) (ports_at c shape o m (kind.Filter test reject) e))
-input_seen c o (kind.Transform set reject) shape m e b seen lies = lies_in (links_into c o) seen (first_into c o) lies (first_member (links_into c o) (ports_at c shape o m (kind.Transform set reject) e))
-input_seen c o (kind.Modify keep drop rename) shape m e b seen lies = lies_in (links_into c o) seen (first_into c o) lies (first_member (links_into c o) (ports_at c shape o m (kind.Modify keep drop rename) e))
-input_seen c o (kind.Switch on cases reject) shape m e b seen lies = lies_in (links_into c o) seen (first_into c o) lies (first_member (links_into c o) (ports_at c shape o m (kind.Switch on cases reject) e))
-input_seen c o (kind.Tsort key) shape m e b seen lies = lies_in (links_into c o) seen (first_into c o) lies (first_member (links_into c o) (ports_at c shape o m (kind.Tsort key) e))
-input_seen c o (kind.Remdup key last) shape m e b seen lies = lies_in (links_into c o) seen (first_into c o) lies (first_member (links_into c o) (ports_at c shape o m (kind.Remdup key last) e))
+input_seen c o (kind.Export file delim fixed) shape m e b seen lies = lies_in (links_into c o) seen (input_of c o) lies (first_member (links_into c o) (ports_at c shape o m (kind.Export file delim fixed) e))
+input_seen c o kind.Copy shape m e b seen lies = lies_in (links_into c o) seen (input_of c o) lies (first_member (links_into c o) (ports_at c shape o m kind.Copy e))
+input_seen c o (kind.Filter test reject) shape m e b seen lies = lies_in (links_into c o) seen (input_of c o) lies (first_member (links_into c o) (ports_at c shape o m (kind.Filter test reject) e))
+input_seen c o (kind.Transform set reject) shape m e b seen lies = lies_in (links_into c o) seen (input_of c o) lies (first_member (links_into c o) (ports_at c shape o m (kind.Transform set reject) e))
+input_seen c o (kind.Modify keep drop rename) shape m e b seen lies = lies_in (links_into c o) seen (input_of c o) lies (first_member (links_into c o) (ports_at c shape o m (kind.Modify keep drop rename) e))
+input_seen c o (kind.Switch on cases reject) shape m e b seen lies = lies_in (links_into c o) seen (input_of c o) lies (first_member (links_into c o) (ports_at c shape o m (kind.Switch on cases reject) e))
+input_seen c o (kind.Tsort key) shape m e b seen lies = lies_in (links_into c o) seen (input_of c o) lies (first_member (links_into c o) (ports_at c shape o m (kind.Tsort key) e))
+input_seen c o (kind.Remdup key last) shape m e b seen lies = lies_in (links_into c o) seen (input_of c o) lies (first_member (links_into c o) (ports_at c shape o m (kind.Remdup key last) e))
 input_seen c o k shape m e b seen lies = absurd b
 
 -- a link whose list no longer changes from turn m on
@@ -113,18 +114,18 @@ unfolding lists_after
 next_list c nodes given k l = refl
 
 -- one more turn for what is sent
-pub sent_again : (c : Chart) (o l : ℕ) (got have : ℕ → List (List Row)) (given : ℕ → List Row) → (link_at c l).from ≡ o → IsBuilt c o (op_at c o).kind → Fed (op_at c o).kind (got (first_into c o) ≡ have (first_into c o)) → sent_on c got given l ≡ sent_on c have given l
+pub sent_again : (c : Chart) (o l : ℕ) (got have : ℕ → List (List Row)) (given : ℕ → List Row) → (link_at c l).from ≡ o → IsBuilt c o (op_at c o).kind → Fed (op_at c o).kind (got (input_of c o) ≡ have (input_of c o)) → sent_on c got given l ≡ sent_on c have given l
 sent_again c o l got have given e b f =
-    ap (λ p. sent_from c l p (got (first_into c p)) (given l)) e
-    ∙ same_sent c o (op_at c o).kind b o (parts_of c o) (link_at c l).out (got (first_into c o)) (have (first_into c o)) (given l) (given l) f refl
-    ∙ sym (ap (λ p. sent_from c l p (have (first_into c p)) (given l)) e)
+    ap (λ p. sent_from c l p (got (input_of c p)) (given l)) e
+    ∙ same_sent c o (op_at c o).kind b o (parts_of c o) (link_at c l).out (got (input_of c o)) (have (input_of c o)) (given l) (given l) f refl
+    ∙ sym (ap (λ p. sent_from c l p (have (input_of c p)) (given l)) e)
 
-settled_next : (c : Chart) (nodes : ℕ) (given : List (List Row)) (m o l : ℕ) → (link_at c l).from ≡ o → IsBuilt c o (op_at c o).kind → Fed (op_at c o).kind (Settled c nodes given m (first_into c o)) → Settled c nodes given (suc m) l
+settled_next : (c : Chart) (nodes : ℕ) (given : List (List Row)) (m o l : ℕ) → (link_at c l).from ≡ o → IsBuilt c o (op_at c o).kind → Fed (op_at c o).kind (Settled c nodes given m (input_of c o)) → Settled c nodes given (suc m) l
 settled_next c nodes given m o l e b f zero k a d = absurd (omega (arith, a))
 settled_next c nodes given m o l e b f (suc j) zero a d = absurd (omega (arith, d))
 settled_next c nodes given m o l e b f (suc j) (suc k) a d =
     next_list c nodes given j l
-    ∙ ap (got_on c nodes l) (sent_again c o l (lists_after c nodes given j) (lists_after c nodes given k) (λ i. get_or given i []) e b (fed_as (op_at c o).kind (Settled c nodes given m (first_into c o)) _ (λ s. s j k (omega (arith, a)) (omega (arith, d))) f))
+    ∙ ap (got_on c nodes l) (sent_again c o l (lists_after c nodes given j) (lists_after c nodes given k) (λ i. get_or given i []) e b (fed_as (op_at c o).kind (Settled c nodes given m (input_of c o)) _ (λ s. s j k (omega (arith, a)) (omega (arith, d))) f))
     ∙ sym (next_list c nodes given k l)
 
 -- some operators of the flow that are run
@@ -136,8 +137,8 @@ pub all_settled : (c : Chart) (nodes : ℕ) (given : List (List Row)) → IsShap
 all_settled c nodes given shape m seen [] b f s l k i = absurd i
 all_settled c nodes given shape m seen (o ∷ order) b f s l k i = go i (λ j. all_settled c nodes given shape (suc m) (links_from c o ++ seen) order b.1 f.1 (λ p q. split p (in_either p (links_from c o) seen q)) l k j)
   where
-    input : Fed (op_at c o).kind (Settled c nodes given m (first_into c o))
-    input = fed_as (op_at c o).kind (IsIn (first_into c o) seen) (Settled c nodes given m (first_into c o)) (λ j. s (first_into c o) j) (input_seen c o (op_at c o).kind shape b.0.0 refl b.0.1 seen f.0)
+    input : Fed (op_at c o).kind (Settled c nodes given m (input_of c o))
+    input = fed_as (op_at c o).kind (IsIn (input_of c o) seen) (Settled c nodes given m (input_of c o)) (λ j. s (input_of c o) j) (input_seen c o (op_at c o).kind shape b.0.0 refl b.0.1 seen f.0)
 
     split : (p : ℕ) → (IsIn p (links_from c o) ⊎ IsIn p seen) → Settled c nodes given (suc m) p
     split p (inl j) = settled_next c nodes given m o p (in_from c o p j).1 b.0.1 input
@@ -164,20 +165,20 @@ SentFits c nodes given l = (length (sent_in c nodes given l) ≡ degree_at c nod
 
 -- what comes at an operator's input
 abbrev CameFits : Chart → ℕ → ℕ → List (List Row) → Type 0
-CameFits c nodes o got = (length got ≡ degree_at c nodes (link_at c (first_into c o)).to) × Each (FitsFields (first_fields c o)) got
+CameFits c nodes o got = (length got ≡ degree_at c nodes (link_at c (input_of c o)).to) × Each (FitsFields (first_fields c o)) got
 
 -- and what the operator puts on a link
 abbrev GivenFits : Chart → ℕ → ℕ → ℕ → List (List Row) → Type 0
 GivenFits c nodes o l sent = (length sent ≡ degree_at c nodes o) × Each (FitsFields (fields_at c l)) sent
 
 -- of what an operator makes
-made_fits : (c : Chart) (nodes : ℕ) (o l : ℕ) (k : OpKind) (keys : List (List Key)) (got : List (List Row)) → PassesFields c o → IsIn l (links_from c o) → (link_at c (first_into c o)).to ≡ o → CameFits c nodes o got → GivenFits c nodes o l (map (made k keys) got)
+made_fits : (c : Chart) (nodes : ℕ) (o l : ℕ) (k : OpKind) (keys : List (List Key)) (got : List (List Row)) → PassesFields c o → IsIn l (links_from c o) → (link_at c (input_of c o)).to ≡ o → CameFits c nodes o got → GivenFits c nodes o l (map (made k keys) got)
 made_fits c nodes o l k keys got passes i to h = (
   length-map got (made k keys) ∙ h.0 ∙ ap (degree_at c nodes) to,
   subst (λ fs. Each (FitsFields fs) (map (made k keys) got)) (sym (passes l i)) (map_each (FitsFields (first_fields c o)) (made k keys) (made_all (FitsFields (first_fields c o)) k keys) got h.1),
 )
 
-work_fits : (c : Chart) (nodes : ℕ) (o l : ℕ) (k : OpKind) (got : List (List Row)) → (op_at c o).kind ≡ k → KeepsFields c o → IsIn l (links_from c o) → (link_at c (first_into c o)).to ≡ o → CameFits c nodes o got →
+work_fits : (c : Chart) (nodes : ℕ) (o l : ℕ) (k : OpKind) (got : List (List Row)) → (op_at c o).kind ≡ k → KeepsFields c o → IsIn l (links_from c o) → (link_at c (input_of c o)).to ≡ o → CameFits c nodes o got →
     GivenFits c nodes o l (map (λ rows. flat_map ((row_rule o k (parts_of c o)).rows (link_at c l).out) rows) got)
 work_fits c nodes o l k got e keeps i to h = (
   length-map got (λ rows. flat_map ((row_rule o k (parts_of c o)).rows (link_at c l).out) rows) ∙ h.0 ∙ ap (degree_at c nodes) to,
@@ -198,10 +199,10 @@ kind_fits c nodes o l (kind.Remdup key last) shape m e b got rows i r h = made_f
 kind_fits c nodes o l k shape m e b got rows i r h = absurd b
 
 pub sent_fits : (c : Chart) (nodes : ℕ) (given : List (List Row)) (o l : ℕ) → IsShape c → o < length c.flow.ops → IsBuilt c o (op_at c o).kind → l < length c.flow.links → (link_at c l).from ≡ o → AllByRecursion (FitsFields (fields_at c l)) (get_or given l []) →
-    Fed (op_at c o).kind (GotFits c nodes given (first_into c o)) → SentFits c nodes given l
+    Fed (op_at c o).kind (GotFits c nodes given (input_of c o)) → SentFits c nodes given l
 sent_fits c nodes given o l shape m b k e r h =
-    let is = ap (λ p. sent_from c l p (got_in c nodes given (first_into c p)) (get_or given l [])) e in
-    let f = kind_fits c nodes o l (op_at c o).kind shape m refl b (got_in c nodes given (first_into c o)) (get_or given l []) (from_in c o l k e) r h in
+    let is = ap (λ p. sent_from c l p (got_in c nodes given (input_of c p)) (get_or given l [])) e in
+    let f = kind_fits c nodes o l (op_at c o).kind shape m refl b (got_in c nodes given (input_of c o)) (get_or given l []) (from_in c o l k e) r h in
     (ap length is ∙ f.0 ∙ ap (degree_at c nodes) (sym e), subst (λ (s : List (List Row)). Each (FitsFields (fields_at c l)) s) (sym is) f.1)
 
 pub got_fits : (c : Chart) (nodes : ℕ) (given : List (List Row)) (l : ℕ) → got_in c nodes given l ≡ got_on c nodes l (sent_in c nodes given l) →
@@ -233,8 +234,8 @@ fits_from : (c : Chart) (choices : List Choice) (nodes : ℕ) (given : List (Lis
 fits_from c choices nodes given r seen [] b f s l k i = absurd i
 fits_from c choices nodes given r seen (o ∷ order) b f s l k i = go i (λ j. fits_from c choices nodes given r (links_from c o ++ seen) order b.1 f.1 (λ p q. split p (in_either p (links_from c o) seen q)) l k j)
   where
-    input : Fed (op_at c o).kind (GotFits c nodes given (first_into c o))
-    input = fed_as (op_at c o).kind (IsIn (first_into c o) seen) (GotFits c nodes given (first_into c o)) (λ j. (s (first_into c o) j).1) (input_seen c o (op_at c o).kind r.shape b.0.0 refl b.0.1 seen f.0)
+    input : Fed (op_at c o).kind (GotFits c nodes given (input_of c o))
+    input = fed_as (op_at c o).kind (IsIn (input_of c o) seen) (GotFits c nodes given (input_of c o)) (λ j. (s (input_of c o) j).1) (input_seen c o (op_at c o).kind r.shape b.0.0 refl b.0.1 seen f.0)
 
     here : (p : ℕ) → p < length c.flow.links → (link_at c p).from ≡ o → Fits c nodes given p
     here p m e =

@@ -22,7 +22,8 @@ use Rattle.list_run.specs.declared.held.Held.{Held}
 use Rattle.list_run.specs.Found.{Tallies}
 use Rattle.list_run.specs.Held.{CanTurn, MaySend, Steps, found_at, sent_from, sent_on, got_on}
 use Rattle.list_run.specs.Routed.{Joins, SuitsRoute}
-use Rattle.list_run.specs.Runnable.{degree_at, first_into, row_count, IsExport, IsRunnable}
+use Rattle.flow_rules.specs.Exports.{IsExport, input_of}
+use Rattle.list_run.specs.Runnable.{degree_at, row_count, IsRunnable}
 use Rattle.list_run.specs.Turns.{HadTurn, Stands, found_after, got_in, sent_in}
 use Rattle.list_run.specs.Worked.{CanWork, WorksByRow}
 use Rattle.list_run.proofs.Inputs.{only_input, ports_at}
@@ -59,12 +60,12 @@ lies_self (x ∷ xs) ys h = (h x (inl refl), lies_self xs ys (λ z i. h z (inr i
 
 -- what waits for the n-th operator, if it has an input
 pub waits_for : (c : Chart) (choices : List Choice) (nodes : ℕ) (given : List (List Row)) (n : ℕ) (rest : List (List Row)) (held : Held) → IsRunnable c choices nodes given → n < length c.order → get_or c.order n 0 < length c.flow.ops → Stands c nodes given n rest held →
-    Fed (op_at c (get_or c.order n 0)).kind (get_or held.waiting.items (first_into c (get_or c.order n 0)) [] ≡ got_in c nodes given (first_into c (get_or c.order n 0)))
+    Fed (op_at c (get_or c.order n 0)).kind (get_or held.waiting.items (input_of c (get_or c.order n 0)) [] ≡ got_in c nodes given (input_of c (get_or c.order n 0)))
 waits_for c choices nodes given n rest held r m b stands =
     let o = get_or c.order n 0 in
-    fed_as (op_at c o).kind (IsIn (first_into c o) (links_into c o)) _ (λ i.
-    let k = in_into c o (first_into c o) i in
-    stands.waiting (first_into c o) k.0 (input_had c r.shape.order.forward n m (first_into c o) i) (λ h. not_before c r.shape.order n m (subst (HadTurn c n) k.1 h)))
+    fed_as (op_at c o).kind (IsIn (input_of c o) (links_into c o)) _ (λ i.
+    let k = in_into c o (input_of c o) i in
+    stands.waiting (input_of c o) k.0 (input_had c r.shape.order.forward n m (input_of c o) i) (λ h. not_before c r.shape.order n m (subst (HadTurn c n) k.1 h)))
     (input_seen c o (op_at c o).kind r.shape b refl (r.run.built o b) (links_into c o) (lies_self (links_into c o) (links_into c o) (λ x i. i)))
 
 -- what it sends is what is sent in the end
@@ -72,10 +73,10 @@ pub held_sent : (c : Chart) (choices : List Choice) (nodes : ℕ) (given : List 
     (l : ℕ) → l < length c.flow.links → (link_at c l).from ≡ get_or c.order n 0 → sent_on c (λ i. get_or held.waiting.items i []) (λ i. get_or rest i []) l ≡ sent_in c nodes given l
 held_sent c choices nodes given n rest held r m b stands l k e =
     let o = get_or c.order n 0 in
-    ap (λ p. sent_from c l p (get_or held.waiting.items (first_into c p) []) (get_or rest l [])) e
-    ∙ same_sent c o (op_at c o).kind (r.run.built o b) o (parts_of c o) (link_at c l).out (get_or held.waiting.items (first_into c o) []) (got_in c nodes given (first_into c o)) (get_or rest l []) (get_or given l []) (waits_for c choices nodes given n rest held r m b stands)
+    ap (λ p. sent_from c l p (get_or held.waiting.items (input_of c p) []) (get_or rest l [])) e
+    ∙ same_sent c o (op_at c o).kind (r.run.built o b) o (parts_of c o) (link_at c l).out (get_or held.waiting.items (input_of c o) []) (got_in c nodes given (input_of c o)) (get_or rest l []) (get_or given l []) (waits_for c choices nodes given n rest held r m b stands)
     (stands.rest_is l k (λ h. not_before c r.shape.order n m (subst (HadTurn c n) e h)))
-    ∙ sym (ap (λ p. sent_from c l p (got_in c nodes given (first_into c p)) (get_or given l [])) e)
+    ∙ sym (ap (λ p. sent_from c l p (got_in c nodes given (input_of c p)) (get_or given l [])) e)
 
 -- rows suit the routes that are written
 suits_row : (m : Route) (fields : List Field) → RouteFits (length fields) m → (r : Row) → FitsFields fields r → SuitsRoute m r
@@ -138,22 +139,22 @@ one_input c o (kind.Switch on cases reject) shape m e w = ports_at c shape o m (
 one_input c o k shape m e w = absurd w
 
 pub can_turn : (c : Chart) (choices : List Choice) (nodes : ℕ) (given : List (List Row)) (n : ℕ) (rest : List (List Row)) (held : Held) → IsRunnable c choices nodes given → n < length c.order → get_or c.order n 0 < length c.flow.ops → Stands c nodes given n rest held →
-    CanTurn (op_at c (get_or c.order n 0)).kind (parts_of c (get_or c.order n 0)) (get_or held.waiting.items (first_into c (get_or c.order n 0)) [])
+    CanTurn (op_at c (get_or c.order n 0)).kind (parts_of c (get_or c.order n 0)) (get_or held.waiting.items (input_of c (get_or c.order n 0)) [])
 can_turn c choices nodes given n rest held r m b stands = λ w.
     let o = get_or c.order n 0 in
     let k = (op_at c o).kind in
     let there = only_input c o (one_input c o k r.shape b refl w) in
     let waits = work_fed k _ w (waits_for c choices nodes given n rest held r m b stands) in
-    subst (CanWork k (parts_of c o)) (sym waits) (can_work c o k r.shape b refl w (got_in c nodes given (first_into c o)) (all_fit c choices nodes given r (first_into c o) there.0).1.1)
+    subst (CanWork k (parts_of c o)) (sym waits) (can_work c o k r.shape b refl w (got_in c nodes given (input_of c o)) (all_fit c choices nodes given r (input_of c o) there.0).1.1)
 
 export_fed : (k : OpKind) (P : Type 0) → IsExport k → Fed k P → P
 export_fed (kind.Export file delim fixed) P e h = h
 export_fed k P e h = absurd e
 
 -- what one more operator finds
-found_more : (c : Chart) (nodes : ℕ) (given : List (List Row)) (n : ℕ) → n < length c.order → found_after c nodes given (n + 1) ≡ found_after c nodes given n ++ found_at c (get_or c.order n 0) (got_in c nodes given (first_into c (get_or c.order n 0)))
+found_more : (c : Chart) (nodes : ℕ) (given : List (List Row)) (n : ℕ) → n < length c.order → found_after c nodes given (n + 1) ≡ found_after c nodes given n ++ found_at c (get_or c.order n 0) (got_in c nodes given (input_of c (get_or c.order n 0)))
 found_more c nodes given n m =
-    let F : ℕ → List Fault = λ o. found_at c o (got_in c nodes given (first_into c o)) in
+    let F : ℕ → List Fault = λ o. found_at c o (got_in c nodes given (input_of c o)) in
     ap (flat_map F) (order_front c.order n m) ∙ flat_map-append F (take n c.order) (get_or c.order n 0 ∷ []) ∙ ap (λ t. flat_map F (take n c.order) ++ t) (append-nil (F (get_or c.order n 0)))
 
 -- one more turn
@@ -168,10 +169,10 @@ stands_next c choices nodes given n rest after held new r m b stands steps = rec
   found = subst (λ fs. Tallies fs new.tally) (sym (found_more c nodes given n m)) (subst (λ fs. Tallies (found_after c nodes given n ++ fs) new.tally) found (steps.found (found_after c nodes given n) stands.found));
 }
   where
-    found : found_at c (get_or c.order n 0) (get_or held.waiting.items (first_into c (get_or c.order n 0)) []) ≡ found_at c (get_or c.order n 0) (got_in c nodes given (first_into c (get_or c.order n 0)))
+    found : found_at c (get_or c.order n 0) (get_or held.waiting.items (input_of c (get_or c.order n 0)) []) ≡ found_at c (get_or c.order n 0) (got_in c nodes given (input_of c (get_or c.order n 0)))
     found =
         let o = get_or c.order n 0 in
-        same_found c o (op_at c o).kind (r.run.built o b) o (parts_of c o) (get_or held.waiting.items (first_into c o) []) (got_in c nodes given (first_into c o)) (waits_for c choices nodes given n rest held r m b stands)
+        same_found c o (op_at c o).kind (r.run.built o b) o (parts_of c o) (get_or held.waiting.items (input_of c o) []) (got_in c nodes given (input_of c o)) (waits_for c choices nodes given n rest held r m b stands)
 
     other : (p : ℕ) → HadTurn c n p → p ≢ get_or c.order n 0
     other p h e = not_before c r.shape.order n m (subst (HadTurn c n) e h)
@@ -184,9 +185,9 @@ stands_next c choices nodes given n rest after held new r m b stands steps = rec
     counted l k (inl h) = steps.kept_counts l k (other (link_at c l).from h) ∙ stands.counts l k h
     counted l k (inr e) = steps.counts l k e ∙ ap row_count (held_sent c choices nodes given n rest held r m b stands l k e)
 
-    kept : (p : ℕ) → IsExport (op_at c p).kind → HadTurn c n p ⊎ (p ≡ get_or c.order n 0) → get_or new.sinks.items p [] ≡ got_in c nodes given (first_into c p)
+    kept : (p : ℕ) → IsExport (op_at c p).kind → HadTurn c n p ⊎ (p ≡ get_or c.order n 0) → get_or new.sinks.items p [] ≡ got_in c nodes given (input_of c p)
     kept p e (inl h) = steps.kept_sinks p (other p h) ∙ stands.sinks p h e
     kept p e (inr q) =
         let e' = subst (λ o. IsExport (op_at c o).kind) q e in
-        subst (λ o. get_or new.sinks.items o [] ≡ got_in c nodes given (first_into c o)) (sym q)
+        subst (λ o. get_or new.sinks.items o [] ≡ got_in c nodes given (input_of c o)) (sym q)
         (steps.sink e' ∙ export_fed (op_at c (get_or c.order n 0)).kind _ e' (waits_for c choices nodes given n rest held r m b stands))

@@ -11,7 +11,8 @@ use Rattle.list_run.specs.declared.held.Held.{Held}
 use Rattle.list_run.specs.Found.{Grows, found_in}
 use Rattle.list_run.specs.Made.{made, made_for}
 use Rattle.list_run.specs.Routed.{Joins, SuitsRoute, delivered}
-use Rattle.list_run.specs.Runnable.{degree_at, first_into, row_count, IsExport}
+use Rattle.flow_rules.specs.Exports.{IsExport, input_of}
+use Rattle.list_run.specs.Runnable.{degree_at, row_count}
 use Rattle.list_run.specs.Worked.{CanWork, WorksByRow, place_of}
 
 -- what the operator with the number o puts on a link that leaves its output q, of the partitions that came at it and of the rows that are given for the link
@@ -24,7 +25,7 @@ abbrev pub sent_from : Chart → ℕ → ℕ → List (List Row) → List Row �
 sent_from c l o lists rows = sent_by o (op_at c o).kind (parts_of c o) (link_at c l).out lists rows
 
 abbrev pub sent_on : Chart → (ℕ → List (List Row)) → (ℕ → List Row) → ℕ → List (List Row)
-sent_on c got given l = sent_from c l (link_at c l).from (got (first_into c (link_at c l).from)) (given l)
+sent_on c got given l = sent_from c l (link_at c l).from (got (input_of c (link_at c l).from)) (given l)
 
 -- and what comes of it
 abbrev pub got_on : Chart → ℕ → ℕ → List (List Row) → List (List Row)
@@ -72,11 +73,11 @@ outputs c o l = cond (nat_lt l (length c.flow.links)) (leaves c o l) false
 
 -- what a copy, a tsort or a remdup makes of what waits at its input
 abbrev pub made_at : Chart → ℕ → Held → List (List Row)
-made_at c o held = map (made (op_at c o).kind (keys_at c o)) (get_or held.waiting.items (first_into c o) [])
+made_at c o held = map (made (op_at c o).kind (keys_at c o)) (get_or held.waiting.items (input_of c o) [])
 
 -- what an operator by rows makes of that for a link
 abbrev pub worked_at : Chart → ℕ → Held → ℕ → List (List Row)
-worked_at c o held l = map (made_for o (op_at c o).kind (parts_of c o) (link_at c l).out) (get_or held.waiting.items (first_into c o) [])
+worked_at c o held l = map (made_for o (op_at c o).kind (parts_of c o) (link_at c l).out) (get_or held.waiting.items (input_of c o) [])
 
 -- and what an operator finds in what comes at its input
 abbrev pub found_at : Chart → ℕ → List (List Row) → List Fault
@@ -102,6 +103,6 @@ pub record Steps (c : Chart) (nodes o : ℕ) (before after : List (List Row)) (o
   pub kept : (l : ℕ) → l < length c.flow.links → (link_at c l).from ≢ o → (link_at c l).to ≢ o → get_or new.waiting.items l [] ≡ get_or old.waiting.items l []
   pub kept_counts : (l : ℕ) → l < length c.flow.links → (link_at c l).from ≢ o → get_or new.counts.items l 0 ≡ get_or old.counts.items l 0
   pub kept_given : (l : ℕ) → l < length c.flow.links → (link_at c l).from ≢ o → get_or after l [] ≡ get_or before l []
-  pub sink : IsExport (op_at c o).kind → get_or new.sinks.items o [] ≡ get_or old.waiting.items (first_into c o) []
+  pub sink : IsExport (op_at c o).kind → get_or new.sinks.items o [] ≡ get_or old.waiting.items (input_of c o) []
   pub kept_sinks : (p : ℕ) → p ≢ o → get_or new.sinks.items p [] ≡ get_or old.sinks.items p []
-  pub found : Grows old.tally new.tally (found_at c o (get_or old.waiting.items (first_into c o) []))
+  pub found : Grows old.tally new.tally (found_at c o (get_or old.waiting.items (input_of c o) []))

@@ -1,5 +1,5 @@
 -- The flows that are run here, the operators of such a flow, and what a run leaves.
-use Rattle.std.specs.Prelude.{◌≡◌, ℕ, ◌<◌, ◌-◌, ◌^◌, min, Bool, true, cond, List, [], length, map, get_or, All, ⊤, None}
+use Rattle.std.specs.Prelude.{◌≡◌, ℕ, ◌<◌, ◌-◌, ◌^◌, min, Bool, true, cond, List, [], length, map, get_or, All, None}
 use Rattle.std.specs.List.{AllByRecursion, flat_map, range_with_len}
 use Rattle.std.specs.List.Sorted.{IsPermutation}
 use Rattle.op_base.specs.declared.fault.Fault.{Fault}
@@ -12,13 +12,14 @@ use Rattle.op_base.specs.RowOperators.{copy_rule, sink_rule}
 use Rattle.flow_graph.specs.declared.op_kind.OpKind.{OpKind}
 use Rattle.flow_graph.specs.declared.op_kind.OpKind.TheVariants as kind
 use Rattle.flow_graph.specs.declared.route.Choice.{Choice}
-use Rattle.flow_graph.specs.Charts.{Chart, link_at, all_links, links_into, links_from, op_at, is_seq, into_seq, keys_at, parts_of}
+use Rattle.flow_graph.specs.Charts.{Chart, link_at, all_links, links_from, op_at, is_seq, into_seq, keys_at, parts_of}
 use Rattle.flow_graph.specs.Fitting.{FitsFields, KeepsFields, PassesFields}
 use Rattle.flow_graph.specs.FlowShape.{IsShape}
 use Rattle.flow_graph.specs.Operators.{Op, import, by_row, tsort, remdup, result}
 use Rattle.flow_graph.specs.RowRules.{if_worked, row_rule}
 use Rattle.flow_graph.specs.Runs.{Lists, Runs}
 use Rattle.flow_derive.specs.LinkStates.{choice_at}
+use Rattle.flow_rules.specs.Exports.{IsExport, input_of}
 use Rattle.flow_rules.specs.Verdicts.{nodes_of}
 use Rattle.list_run.specs.declared.ran.Ran.{Ran}
 use Rattle.list_run.specs.Routed.{Joins}
@@ -26,9 +27,6 @@ use Rattle.list_run.specs.Routed.{Joins}
 -- a sequential operator has one partition, another has as many as there are nodes
 abbrev pub degree_at : Chart → ℕ → ℕ → ℕ
 degree_at c nodes o = cond (is_seq (op_at c o).mark) 1 nodes
-
-abbrev pub first_into : Chart → ℕ → ℕ
-first_into c o = get_or (links_into c o) 0 0
 
 -- import, copy, filter, transform, modify, switch, tsort, remdup and export are run
 abbrev pub IsBuilt : Chart → ℕ → OpKind → Type 0
@@ -76,10 +74,6 @@ OpIs c sources o op k = ⊥
 abbrev pub OpsAre : Chart → List (List Row) → (ℕ → Op) → Type 0
 OpsAre c sources ops = (o : ℕ) → o < length c.flow.ops → OpIs c sources o (ops o) (op_at c o).kind
 
-abbrev pub IsExport : OpKind → Type 0
-IsExport (kind.Export file delim fixed) = ⊤
-IsExport k = ⊥
-
 -- as far as rows are counted
 abbrev pub row_count : List (List Row) → ℕ
 row_count lists = min (length (joined lists)) (2 ^ 63 - 1)
@@ -101,5 +95,5 @@ pub record IsRunOf (c : Chart) (nodes : ℕ) (ops : ℕ → Op) (ran : Ran) : Ty
   pub legal : AllByRecursion (Runs (λ l. (choice_at c l).sort) run) (nodes_of c ops)
   pub degrees : (l : ℕ) → l < length c.flow.links → (length (run.sent l) ≡ degree_at c nodes (link_at c l).from) × (length (run.got l) ≡ degree_at c nodes (link_at c l).to)
   pub counts : ran.counts ≡ map (λ l. row_count (run.sent l)) (all_links c)
-  pub sinks : (o : ℕ) → o < length c.flow.ops → IsExport (op_at c o).kind → get_or ran.sinks o [] ≡ run.got (first_into c o)
+  pub sinks : (o : ℕ) → o < length c.flow.ops → IsExport (op_at c o).kind → get_or ran.sinks o [] ≡ run.got (input_of c o)
   pub faults : Counts (worked_faults c run) ran

@@ -8,7 +8,8 @@ ghost use Rattle.flow_derive.specs.LinkStates.{choice_at};
 ghost use Rattle.list_run.specs.Found.{Tallies};
 ghost use Rattle.list_run.specs.Held.{CanTurn, HasRoom, MaySend, Moves, Puts, Steps, found_at, leaves, leaves_but, made_at, out_on, outputs, place_on, sent_on, worked_at};
 ghost use Rattle.list_run.specs.Routed.{Joins, SuitsRoute};
-ghost use Rattle.list_run.specs.Runnable.{CanRun, IsBuilt, IsRunOf, IsRunnable, OpsAre, degree_at, first_into, row_count};
+ghost use Rattle.flow_rules.specs.Exports.{input_of};
+ghost use Rattle.list_run.specs.Runnable.{CanRun, IsBuilt, IsRunOf, IsRunnable, OpsAre, degree_at, row_count};
 ghost use Rattle.list_run.specs.Turns.{Stands};
 ghost use Rattle.list_run.specs.Worked.{CanWork, WorksByRow};
 ghost use Rattle.flow_graph.specs.Operators.{Op};
@@ -57,7 +58,7 @@ fn degree(shaped: &Shaped, nodes: u32, op: u32) -> u32
 
 /// The link at input 0.
 fn input_of(shaped: &Shaped, op: u32) -> usize
-    ensures { result ≡ first_into shaped.now op }
+    ensures { result ≡ input_of shaped.now op }
 {
     for (link, spec) in shaped.flow().links.as_slice().iter().enumerate() {
         if spec.to == op {
@@ -274,9 +275,9 @@ fn send_sources(
 /// Keeps what came at an export.
 fn keep(alloc: Global, shaped: &Shaped, op: u32, held: &mut Held)
     requires { op < length held.old.sinks.items }
-    ensures waiting { held.new.waiting.items ≡ set held.old.waiting.items (first_into shaped.now op) [] }
+    ensures waiting { held.new.waiting.items ≡ set held.old.waiting.items (input_of shaped.now op) [] }
     ensures counts { held.new.counts.items ≡ held.old.counts.items }
-    ensures sinks { held.new.sinks.items ≡ set held.old.sinks.items op (get_or held.old.waiting.items (first_into shaped.now op) []) }
+    ensures sinks { held.new.sinks.items ≡ set held.old.sinks.items op (get_or held.old.waiting.items (input_of shaped.now op) []) }
     ensures tally { held.new.tally ≡ held.old.tally }
 {
     let got = take_at(alloc, &mut held.waiting, input_of(shaped, op));
@@ -298,7 +299,7 @@ fn pass_on(
     requires some { 0 < nodes }
     requires room { HasRoom shaped.now held.old }
     requires may { MaySend shaped.now nodes op (λ l. made_at shaped.now op held.old) }
-    ensures { OnOk result (Moves shaped.now nodes (first_into shaped.now op) (outputs shaped.now op) (λ l. made_at shaped.now op held.old) [] held.old held.new) }
+    ensures { OnOk result (Moves shaped.now nodes (input_of shaped.now op) (outputs shaped.now op) (λ l. made_at shaped.now op held.old) [] held.old held.new) }
 {
     let got = take_at(alloc, &mut held.waiting, input_of(shaped, op));
     let kind = &shaped.flow().ops.as_slice()[op as usize].kind;
@@ -322,9 +323,9 @@ fn work_by_row(
     requires some { 0 < nodes }
     requires room { HasRoom shaped.now held.old }
     requires by_row { WorksByRow (op_at shaped.now op).kind }
-    requires can { CanWork (op_at shaped.now op).kind (parts_of shaped.now op) (get_or held.old.waiting.items (first_into shaped.now op) []) }
+    requires can { CanWork (op_at shaped.now op).kind (parts_of shaped.now op) (get_or held.old.waiting.items (input_of shaped.now op) []) }
     requires may { MaySend shaped.now nodes op (worked_at shaped.now op held.old) }
-    ensures { OnOk result (Moves shaped.now nodes (first_into shaped.now op) (outputs shaped.now op) (worked_at shaped.now op held.old) (found_at shaped.now op (get_or held.old.waiting.items (first_into shaped.now op) [])) held.old held.new) }
+    ensures { OnOk result (Moves shaped.now nodes (input_of shaped.now op) (outputs shaped.now op) (worked_at shaped.now op held.old) (found_at shaped.now op (get_or held.old.waiting.items (input_of shaped.now op) [])) held.old held.new) }
 {
     let got = take_at(alloc, &mut held.waiting, input_of(shaped, op));
     let kind = &shaped.flow().ops.as_slice()[op as usize].kind;
@@ -349,7 +350,7 @@ fn run_operator(
     requires chosen { choices.now ≡ map (choice_at shaped.now) (all_links shaped.now) }
     requires some { 0 < nodes }
     requires room { HasRoom shaped.now held.old }
-    requires can { CanTurn (op_at shaped.now op).kind (parts_of shaped.now op) (get_or held.old.waiting.items (first_into shaped.now op) []) }
+    requires can { CanTurn (op_at shaped.now op).kind (parts_of shaped.now op) (get_or held.old.waiting.items (input_of shaped.now op) []) }
     requires may { MaySend shaped.now nodes op (sent_on shaped.now (λ i. get_or held.old.waiting.items i []) (λ i. get_or sources.old.items i [])) }
     ensures { OnOk result (Steps shaped.now nodes op sources.old.items sources.new.items held.old held.new) }
 {

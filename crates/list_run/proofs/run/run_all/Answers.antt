@@ -1,7 +1,8 @@
 use Rattle.std.proofs.Common.{◌<◌, subst, sym, length, get_or, ℕ, List, []}
 use Rattle.flow_graph.specs.Charts.{op_at, parts_of}
 use Rattle.list_run.specs.Held.{CanTurn, MaySend, Steps, sent_on}
-use Rattle.list_run.specs.Runnable.{IsBuilt, first_into}
+use Rattle.flow_rules.specs.Exports.{input_of}
+use Rattle.list_run.specs.Runnable.{IsBuilt}
 use Rattle.list_run.proofs.Ordered.{at_place, order_below}
 use Rattle.list_run.proofs.Standing.{can_turn, may_send, stands_next}
 use Rattle.list_run.proofs.run.run_all.Goals as goal
@@ -34,7 +35,7 @@ run_operator-requires-clause-can c =
     let i = c.loop-op.op-index in
     let m = subst (λ (xs : List ℕ). i < length xs) c.order-op-items.ensures c.loop-op-test.true in
     let b = at_place (λ o. o < length chart.flow.ops) chart.order i m (order_below chart c.requires.runs.shape.order) in
-    subst (λ (xs : List ℕ). CanTurn (op_at chart (get_or xs i 0)).kind (parts_of chart (get_or xs i 0)) (get_or c.loop-op.held.waiting.items (first_into chart (get_or xs i 0)) [])) (sym c.order-op-items.ensures)
+    subst (λ (xs : List ℕ). CanTurn (op_at chart (get_or xs i 0)).kind (parts_of chart (get_or xs i 0)) (get_or c.loop-op.held.waiting.items (input_of chart (get_or xs i 0)) [])) (sym c.order-op-items.ensures)
     (can_turn chart c.args.choices.now c.args.nodes c.args.sources.now.items i c.loop-op.sources.items c.loop-op.held c.requires.runs m b c.loop-op.invariant)
 
 pub loop-op-preserved : goal.loop-op-preserved

@@ -9,7 +9,8 @@ use Rattle.flow_graph.specs.FlowShape.{FormPorts}
 use Rattle.list_run.specs.Found.{found_in}
 use Rattle.list_run.specs.Held.{made_at, sent_by, sent_on, worked_at}
 use Rattle.list_run.specs.Made.{made, made_for}
-use Rattle.list_run.specs.Runnable.{IsBuilt, IsExport}
+use Rattle.flow_rules.specs.Exports.{IsExport}
+use Rattle.list_run.specs.Runnable.{IsBuilt}
 use Rattle.list_run.proofs.Links.{same_at}
 use Rattle.list_run.proofs.Inputs.{only_input, ports_at}
 use Rattle.list_run.proofs.Steps.{import_sent, kind_sent, may_as, passes, step_export, works}
