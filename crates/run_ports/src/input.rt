@@ -1,4 +1,4 @@
-ghost use Rattle.std.specs.Prelude.{◌≡◌, ◌×◌, [], ◌∷◌, IfSome, OnNone, false};
+ghost use Rattle.std.specs.Prelude.{◌≡◌, [], ◌∷◌, IfSome, IfNone, false};
 ghost use Rattle.streams.specs.Lists.{is_empty};
 ghost use Rattle.streams.specs.Streams.{row, end, whole};
 
@@ -45,8 +45,8 @@ impl Input {
     pub fn next(&mut self) -> Option<Row>
         requires { is_empty self.old ≡ false }
         ensures row { IfSome result (λ r. self.old ≡ row r ∷ self.new) }
-        ensures end { OnNone result (self.old ≡ end ∷ self.new) }
-        ensures over { OnNone result (self.new ≡ []) }
+        ensures end { IfNone result (self.old ≡ end ∷ self.new) }
+        ensures over { IfNone result (self.new ≡ []) }
     {
         match self.rows.pop_front() {
             Some(row) => Some(row),

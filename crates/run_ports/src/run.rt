@@ -1,9 +1,9 @@
-ghost use Rattle.std.specs.Prelude.{◌≡◌, ◌≤◌, ◌^◌, ℕ, List, [], ◌∷◌, length, map, position, not, false, OnOk, IfOk};
+ghost use Rattle.std.specs.Prelude.{◌≡◌, ◌<◌, ◌≤◌, ◌^◌, List, [], ◌∷◌, length, map, position, not, false, OnOk, IfOk, IfSome};
 ghost use Rattle.streams.specs.Lists.{is_empty};
-ghost use Rattle.streams.specs.Streams.{Feed, Item, whole};
+ghost use Rattle.streams.specs.Streams.{Item, whole};
 ghost use Rattle.op_base.specs.Columns.{Row as Cells};
 ghost use Rattle.op_base.specs.Standing.{MayFeed};
-ghost use Rattle.run_ports.specs.Driving.{AreLeft, FeedsFirst, HasFed, Picks, feed_of};
+ghost use Rattle.run_ports.specs.Driving.{FeedsFirst, HasFed, PicksNext, feed_of};
 ghost use Rattle.run_ports.specs.PortLists.{HasRun, SuitsLists, list_of};
 
 use crate::input::Input;
@@ -22,22 +22,21 @@ fn inputs_of(alloc: Global, lists: Vec<Items<Row>>) -> Result<Vec<Input>, NoMemo
     Ok(inputs)
 }
 
-fn first_open(inputs: &[Input]) -> Option<u32>
-    requires { length inputs.now ≤ 2 ^ 32 }
-    ensures { result ≡ position (λ items. not (is_empty items)) inputs.now }
+fn first_open(inputs: &[Input]) -> Option<usize>
+    ensures place { result ≡ position (λ items. not (is_empty items)) inputs.now }
+    ensures within { IfSome result (λ i. i < length inputs.now) }
 {
-    let first = inputs.iter().position(|input| !input.is_over())?;
-    Some(first as u32)
+    inputs.iter().position(|input| !input.is_over())
 }
 
 /// The port that is fed next: the one that is wanted, or of several the least.
 fn next_port<O: Operator>(op: &O, inputs: &[Input]) -> Option<u32>
     requires few { length inputs.now ≤ 2 ^ 32 }
-    ensures { (lists : ℕ → List Cells) (feeds : List (Feed Cells)) → (O.stream op.now).ports ≡ length inputs.now → O.Stands op.now feeds → AreLeft lists inputs.now feeds → Picks (O.stream op.now) feeds result }
+    ensures { PicksNext (O.stream op.now) (O.Stands op.now) inputs.now result }
 {
     match op.wants() {
         Want::Port(port) => Some(port),
-        Want::Any => first_open(inputs),
+        Want::Any => Some(first_open(inputs)? as u32),
         Want::Nothing => None,
     }
 }
