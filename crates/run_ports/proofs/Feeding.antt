@@ -1,20 +1,19 @@
 -- Lists that are fed, each on its port, on the way and at their ends.
-use Rattle.std.proofs.Common.{◌≡◌, ℕ, zero, suc, ◌+◌, ◌<◌, ◌≤◌, ◌==◌, Bool, true, false, not, ◌&&◌, cond, Option, Some, None, refl, sym, ap, ◌∙◌, subst, inl, inr, List, [], ◌∷◌, ◌++◌, map, length, get_or, set, append_assoc, append-nil, arith, position}
+use Rattle.std.proofs.Common.{◌≡◌, ℕ, zero, suc, ◌+◌, ◌<◌, ◌≤◌, ◌==◌, Bool, true, false, not, cond, Option, Some, None, refl, sym, ap, ◌∙◌, subst, inl, inr, List, [], ◌∷◌, ◌++◌, map, length, get_or, set, append_assoc, append-nil, arith, position}
 use Rattle.std.specs.Prelude.{nat_lt}
-use Rattle.std.specs.List.{position_from, sum_by}
+use Rattle.std.specs.List.{position_from, sum_by, list_all}
 use Rattle.std.proofs.lemmas.Bool.Decides.{eqb_tells}
-use Rattle.std.proofs.lemmas.List.{get_or-map, get_or-set_same, get_or-set_other, length-set}
+use Rattle.std.proofs.lemmas.List.{get_or-set_same, get_or-set_other, length-set}
 use Rattle.std.proofs.lemmas.List.Quantifiers.{position-Some}
 use Rattle.std.proofs.lemmas.List.Sums.{sum_by-set}
 use Rattle.std.proofs.lemmas.Iterator.Adapters.{position_from-zero}
 use Rattle.streams.specs.Lists.{is_empty}
-use Rattle.streams.specs.Streams.{Item, row, end, Feed, has_end, items_of, ended, all_ended, emits, FedAfter, Fed, whole, Gives, IsStream}
-use Rattle.streams.proofs.Basics.{and_true}
-use Rattle.streams.proofs.StreamLaws.{items-append, fed-more, eq_true, eq_false, all_at, all_from, true_false}
+use Rattle.streams.specs.Streams.{Item, row, end, Feed, has_end, rows, items_of, rows_of, ended, all_ended, FedAfter, Fed, whole, IsStream}
+use Rattle.streams.proofs.Basics.{and_left, and_right, and_true}
+use Rattle.streams.proofs.StreamLaws.{items-append, fed-more, eq_false, all_at, all_from}
 use Rattle.op_base.specs.declared.operator.Want.TheVariants.{Any}
 use Rattle.op_base.specs.declared.emit.Emit.{Emit}
 use Rattle.op_base.specs.Columns.{Row}
-use Rattle.op_base.specs.Emits.{Adds}
 use Rattle.op_base.specs.Standing.{RowStream, MayFeed, Answers}
 use Rattle.op_base.proofs.Adding.{Adds-none}
 use Rattle.op_base.proofs.ListFeeds.{adds_more}
@@ -117,6 +116,24 @@ module _ (s : RowStream) (is : IsStream s) (lists : ℕ → List Row) (left : Li
     where
       lt_true : {a b : ℕ} → a < b → nat_lt a b ≡ true
       lt_true lt = grind arith
+
+-- Where each row of a list passes a test, so does each that was fed.
+each_row : (p : Row → Bool) (items rest : List (Item Row)) (xs : List Row) → items ++ rest ≡ whole xs → list_all p xs ≡ true → list_all p (rows items) ≡ true
+each_row p [] rest xs e h = refl
+each_row p (row y ∷ items) rest [] e h = let d : row y ∷ (items ++ rest) ≡ end ∷ [] = e in cc
+each_row p (row y ∷ items) rest (x ∷ xs) e h =
+    let d : row y ∷ (items ++ rest) ≡ row x ∷ whole xs = e in
+    let first : y ≡ x = cc in
+    and_true (ap p first ∙ and_left (p x) (list_all p xs) h) (each_row p items rest xs (cc) (and_right (p x) (list_all p xs) h))
+each_row p (end ∷ items) rest [] e h = let d : end ∷ (items ++ rest) ≡ end ∷ [] = e in none items (cc)
+  where
+    none : (items : List (Item Row)) → items ++ rest ≡ [] → list_all p (rows items) ≡ true
+    none [] f = refl
+    none (i ∷ items) f = cc
+each_row p (end ∷ items) rest (x ∷ xs) e h = let d : end ∷ (items ++ rest) ≡ row x ∷ whole xs = e in cc
+
+pub each_begun : (p : Row → Bool) (lists : ℕ → List Row) (feeds : List (Feed Row)) (i : ℕ) → AreBegun lists feeds → list_all p (lists i) ≡ true → list_all p (rows_of i feeds) ≡ true
+each_begun p lists feeds i begun h = each_row p (items_of i feeds) (begun i).0 (lists i) (begun i).1 h
 
 -- an input that is read at its port
 pub read_at : (left : List (List (Item Row))) (port : ℕ) (items : List (Item Row)) → port < length left → items ≡ get_or left port items → get_or left port [] ≡ items

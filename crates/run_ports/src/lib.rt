@@ -5,3 +5,6 @@ mod input;
 mod run;
 
 pub use run::run_ports;
+
+#[cfg(test)]
+mod tests;

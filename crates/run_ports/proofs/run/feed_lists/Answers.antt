@@ -1,4 +1,4 @@
-use Rattle.std.proofs.Common.{◌∙◌, ◌<◌, sym, subst, length, length-set}
+use Rattle.std.proofs.Common.{◌∙◌, ◌<◌, sym, subst, length-set}
 use Rattle.run_ports.proofs.Feeding.{picked_open, items_open, may_feed, taken_first, feeds_more, has_fed}
 use Rattle.run_ports.proofs.run.feed_lists.Goals as goal
 

@@ -1,4 +1,4 @@
-use Rattle.std.proofs.Common.{◌∙◌, sym}
+use Rattle.std.proofs.Common.{◌∙◌}
 use Rattle.run_ports.proofs.Feeding.{picks_least}
 use Rattle.run_ports.proofs.run.next_port.Goals as goal
 
