@@ -28,7 +28,7 @@ use Rattle.flow_rules.specs.Verdicts.{node_at}
 use Rattle.op_shape.specs.Options.{first_fields, line_fields, made_or_rejected, output_fields}
 use Rattle.flow_shape.specs.Refusals.{Fits, fields_at, inputs_at, kind_at}
 use Rattle.flow_sound.specs.Fitting.{IsByRow, RowsFit}
-use Rattle.flow_sound.specs.Kinds.{IsOfKind, LineFits}
+use Rattle.flow_sound.specs.Kinds.{IsOfKind, LineFits, widths_into}
 use Rattle.flow_sound.specs.Promise.{FormsFit, OperatorsFit}
 use Rattle.flow_sound.proofs.ByRow.{one_input, row_shape, works_at}
 use Rattle.flow_sound.proofs.Members.{below_all}
@@ -57,17 +57,17 @@ rows_wide fields rows h = all_map (λ (r : Row). row_fits fields r ≡ true) (Wi
 set_passes : (set : List SetSpec) (reject : Bool) (fields : List Field) (parts : OpParts) → ExprsFit fields (kind.Transform set reject) parts → let sets = sets_of set parts.cols parts.exprs in transform_passes (length (input_fields sets)) (targets sets) ≡ transform_passes (length fields) parts.cols
 set_passes set reject fields parts x = ap₂ transform_passes (ap length x.4) (targets_are set parts.cols parts.exprs x.1 x.2)
 
-kind_forms : (o : ℕ) (k : OpKind) (parts : OpParts) (op : Op) (stored : Option Stored) (fields : List Field) → IsOfKind o k parts op → ExprsFit fields k parts → form op ≡ kind_form k parts.keys parts.cols stored (length fields)
-kind_forms o (kind.Import file schema delim fixed reject) parts op stored fields h x = ap form h.3
-kind_forms o (kind.Export file delim fixed) parts op stored fields h x = ap form h.1
-kind_forms o kind.Copy parts op stored fields h x = ap form h
-kind_forms o (kind.Filter test reject) parts op stored fields h x = ap form h
-kind_forms o (kind.Transform set reject) parts op stored fields h x = ap form h ∙ ap passing (set_passes set reject fields parts x)
-kind_forms o (kind.Modify keep drop rename) parts op stored fields h x = ap form h
-kind_forms o (kind.Switch on cases reject) parts op stored fields h x = ap form h
-kind_forms o (kind.Tsort key) parts op stored fields h x = ap form h
-kind_forms o (kind.Remdup key last) parts op stored fields h x = ap form h
-kind_forms o k parts op stored fields h x = absurd h
+kind_forms : (o : ℕ) (k : OpKind) (parts : OpParts) (widths : List ℕ) (op : Op) (stored : Option Stored) (fields : List Field) → IsOfKind o k parts widths op → ExprsFit fields k parts → form op ≡ kind_form k parts.keys parts.cols stored (length fields)
+kind_forms o (kind.Import file schema delim fixed reject) parts widths op stored fields h x = ap form h.3
+kind_forms o (kind.Export file delim fixed) parts widths op stored fields h x = ap form h.1
+kind_forms o kind.Copy parts widths op stored fields h x = ap form h
+kind_forms o (kind.Filter test reject) parts widths op stored fields h x = ap form h
+kind_forms o (kind.Transform set reject) parts widths op stored fields h x = ap form h ∙ ap passing (set_passes set reject fields parts x)
+kind_forms o (kind.Modify keep drop rename) parts widths op stored fields h x = ap form h
+kind_forms o (kind.Switch on cases reject) parts widths op stored fields h x = ap form h
+kind_forms o (kind.Tsort key) parts widths op stored fields h x = ap form h
+kind_forms o (kind.Remdup key last) parts widths op stored fields h x = ap form h
+kind_forms o k parts widths op stored fields h x = absurd h
 
 first_long : (inputs : List (List Field)) → get_or (map length inputs) 0 0 ≡ length (first_fields inputs)
 first_long [] = refl
@@ -82,22 +82,22 @@ by_row_suits : (o : ℕ) (k : OpKind) (parts : OpParts) (op : Op) (n : ℕ) (fie
 by_row_suits o k parts op n fields inputs h w one p e =
     subst (λ ins. Suits k ins n op) (sym one) (subst (Suits k (fields ∷ []) n) (sym e) (row_shape o k fields parts h w, p, tt, λ q. tt))
 
-kind_suits : (o : ℕ) (k : OpKind) (parts : OpParts) (op : Op) (stored : Option Stored) (width n : ℕ) (fields : List Field) (inputs : List (List Field)) → IsOfKind o k parts op → FormPorts (kind_form k parts.keys parts.cols stored width) n → (IsByRow k → Works k fields parts × (inputs ≡ fields ∷ [])) → Suits k inputs n op
-kind_suits o (kind.Import file schema delim fixed reject) parts op stored width n fields inputs h p w =
+kind_suits : (o : ℕ) (k : OpKind) (parts : OpParts) (widths : List ℕ) (op : Op) (stored : Option Stored) (width n : ℕ) (fields : List Field) (inputs : List (List Field)) → IsOfKind o k parts widths op → FormPorts (kind_form k parts.keys parts.cols stored width) n → (IsByRow k → Works k fields parts × (inputs ≡ fields ∷ [])) → Suits k inputs n op
+kind_suits o (kind.Import file schema delim fixed reject) parts widths op stored width n fields inputs h p w =
     subst (Suits (kind.Import file schema delim fixed reject) inputs n) (sym h.3) (λ q. rows_wide (made_or_rejected schema line_fields q) (flat_map (line_rows q reject) h.0) (lines_fit schema reject h.0 q h.2), p, tt, λ q. tt)
-kind_suits o (kind.Export file delim fixed) parts op stored width n fields inputs h p w =
+kind_suits o (kind.Export file delim fixed) parts widths op stored width n fields inputs h p w =
     subst (Suits (kind.Export file delim fixed) inputs n) (sym h.1) (sink_shape (get_or (map length inputs) 0 0) h.0 (λ q. length (first_fields inputs)), p, tt, λ q. tt)
-kind_suits o kind.Copy parts op stored width n fields inputs h p w =
+kind_suits o kind.Copy parts widths op stored width n fields inputs h p w =
     subst (Suits kind.Copy inputs n) (sym h) (subst (λ m. RowShape copy_rule (get_or (map length inputs) 0 0) (λ q. m)) (first_long inputs) (copy_shape (get_or (map length inputs) 0 0)), p, tt, λ q. tt)
-kind_suits o (kind.Filter test reject) parts op stored width n fields inputs h p w = by_row_suits o (kind.Filter test reject) parts op n fields inputs tt (w tt).0 (w tt).1 p h
-kind_suits o (kind.Transform set reject) parts op stored width n fields inputs h p w = by_row_suits o (kind.Transform set reject) parts op n fields inputs tt (w tt).0 (w tt).1 p h
-kind_suits o (kind.Modify keep drop rename) parts op stored width n fields inputs h p w = by_row_suits o (kind.Modify keep drop rename) parts op n fields inputs tt (w tt).0 (w tt).1 p h
-kind_suits o (kind.Switch on cases reject) parts op stored width n fields inputs h p w = by_row_suits o (kind.Switch on cases reject) parts op n fields inputs tt (w tt).0 (w tt).1 p h
-kind_suits o (kind.Tsort key) parts op stored width n fields inputs h p w =
+kind_suits o (kind.Filter test reject) parts widths op stored width n fields inputs h p w = by_row_suits o (kind.Filter test reject) parts op n fields inputs tt (w tt).0 (w tt).1 p h
+kind_suits o (kind.Transform set reject) parts widths op stored width n fields inputs h p w = by_row_suits o (kind.Transform set reject) parts op n fields inputs tt (w tt).0 (w tt).1 p h
+kind_suits o (kind.Modify keep drop rename) parts widths op stored width n fields inputs h p w = by_row_suits o (kind.Modify keep drop rename) parts op n fields inputs tt (w tt).0 (w tt).1 p h
+kind_suits o (kind.Switch on cases reject) parts widths op stored width n fields inputs h p w = by_row_suits o (kind.Switch on cases reject) parts op n fields inputs tt (w tt).0 (w tt).1 p h
+kind_suits o (kind.Tsort key) parts widths op stored width n fields inputs h p w =
     subst (Suits (kind.Tsort key) inputs n) (sym h) (λ q. sym (first_long inputs), p, tt, λ q. tt)
-kind_suits o (kind.Remdup key last) parts op stored width n fields inputs h p w =
+kind_suits o (kind.Remdup key last) parts widths op stored width n fields inputs h p w =
     subst (Suits (kind.Remdup key last) inputs n) (sym h) (λ q. sym (first_long inputs), p, tt, λ q. tt)
-kind_suits o k parts op stored width n fields inputs h p w = absurd h
+kind_suits o k parts widths op stored width n fields inputs h p w = absurd h
 
 route_fits : (seq : Bool) (width : ℕ) (written : Option Route) → WrittenFits seq width written → RouteFits width (written_or_same written)
 route_fits seq width None h = tt
@@ -113,7 +113,7 @@ route_fits seq width (Some route.Ordered) h = h.1
 pub forms_fit : FormsFit
 forms_fit flow dict c ops s o i =
     let b = below_all (length c.flow.ops) o c.order s.shape.order.once i in
-    kind_forms o (op_at c o).kind (parts_of c o) (ops o) (get_or c.stored o None) (fields_into c o) (s.kinds o b) (s.shape.ops o b).exprs
+    kind_forms o (op_at c o).kind (parts_of c o) (widths_into c o) (ops o) (get_or c.stored o None) (fields_into c o) (s.kinds o b) (s.shape.ops o b).exprs
 
 -- what its producer gives on a link
 pub given_there : (c : Chart) (o l : ℕ) → Fits c o → l < length c.flow.links → (link_at c l).from ≡ o → fields_at c l ≡ output_fields (kind_at c o) (inputs_at c o) (link_at c l).out
@@ -126,7 +126,7 @@ operators_fit flow dict c ops s = all_nodes (FitsShape (width_at c)) c ops node
     node o i =
         let b = below_all (length c.flow.ops) o c.order s.shape.order.once i in
         let ports = (s.shape.ops o b).inputs in
-        let suits = kind_suits o (op_at c o).kind (parts_of c o) (ops o) (get_or c.stored o None) (first_width c o) (length (links_into c o)) (fields_into c o) (inputs_at c o) (s.kinds o b) ports (λ h. (works_at flow dict c s.shape s.shape_of o b h, one_input c o s.shape b h)) in
+        let suits = kind_suits o (op_at c o).kind (parts_of c o) (widths_into c o) (ops o) (get_or c.stored o None) (first_width c o) (length (links_into c o)) (fields_into c o) (inputs_at c o) (s.kinds o b) ports (λ h. (works_at flow dict c s.shape s.shape_of o b h, one_input c o s.shape b h)) in
         let widths = map_two (fields_at c) length (links_into c o) in (
           λ q. length (output_fields (kind_at c o) (inputs_at c o) q),
           subst (λ ws. IsShaped (ops o) ws (λ q. length (output_fields (kind_at c o) (inputs_at c o) q))) widths suits.0,
