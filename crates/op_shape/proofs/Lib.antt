@@ -7,5 +7,4 @@ pub mod Keys
 pub mod Making
 pub mod Places
 pub mod Putting
-pub mod Same
 pub mod Typing
