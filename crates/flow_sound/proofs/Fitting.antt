@@ -1,5 +1,5 @@
 -- Operators of the kinds that a shaped flow names are such as the law of flows asks.
-use Rattle.std.proofs.Common.{◌≡◌, ℕ, zero, suc, ◌<◌, Bool, true, false, cond, List, [], ◌∷◌, map, get_or, refl, sym, ap, ap₂, ◌∙◌, subst, length, flat_map, Option, Some, None}
+use Rattle.std.proofs.Common.{◌≡◌, ℕ, zero, suc, ◌<◌, Bool, true, false, cond, List, [], ◌∷◌, map, get_or, sym, ap, ap₂, ◌∙◌, subst, length, flat_map, Option, Some, None}
 use Rattle.std.specs.List.{AllByRecursion}
 use Rattle.ds_schema.specs.declared.schema.Field.{Field}
 use Rattle.ds_schema.specs.Schemas.{row_fits}
@@ -22,7 +22,7 @@ use Rattle.flow_graph.specs.Forms.{form, by_row as passing}
 use Rattle.flow_graph.specs.Operators.{Op, by_row}
 use Rattle.flow_graph.specs.RowRules.{ExprsFit, row_rule, sets_of}
 use Rattle.flow_graph.specs.Runs.{FitsShape, Out, RouteFits}
-use Rattle.flow_graph.specs.Shapes.{FitsPorts, HasPort, IsShaped, KeysDistinct, RowShape, Wide}
+use Rattle.flow_graph.specs.Shapes.{HasPort, IsShaped, RowShape, Wide}
 use Rattle.flow_graph.proofs.RowShapes.{copy_shape, sink_shape}
 use Rattle.flow_derive.specs.LinkStates.{written_or_same}
 use Rattle.flow_rules.specs.Verdicts.{node_at}

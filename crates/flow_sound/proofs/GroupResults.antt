@@ -1,6 +1,6 @@
 -- The results of a group of rows that fit, fit their fields.
-use Rattle.std.proofs.Common.{◌≡◌, ◌<◌, ◌≤◌, ◌+◌, ◌*◌, ◌-◌, ◌^◌, ◌&&◌, ◌||◌, ◌==◌, ℕ, zero, suc, ℤ, pos, negsuc, ◌+ℤ◌, not, Bool, true, false, cond, List, [], ◌∷◌, ◌++◌, length, map, filter, Option, Some, None, refl, sym, ap, ap₂, ◌∙◌, subst, arith}
-use Rattle.std.specs.Prelude.{nat_lt, nat_le, int_le, unsigned_abs, neg_ℤ, ◌≤ℤ◌, if◌then◌else◌}
+use Rattle.std.proofs.Common.{◌≡◌, ◌<◌, ◌≤◌, ◌*◌, ◌-◌, ◌^◌, ◌||◌, ℕ, ℤ, pos, not, Bool, true, false, cond, List, [], ◌∷◌, length, filter, Option, Some, None, refl, sym, ap, ap₂, ◌∙◌, subst, arith}
+use Rattle.std.specs.Prelude.{nat_lt, unsigned_abs, if◌then◌else◌}
 use Rattle.std.specs.List.{AllByRecursion, list_any}
 use Rattle.std.proofs.lemmas.Bool.Decides.{nat_tests}
 use Rattle.std.proofs.lemmas.Int.{ints}
@@ -11,26 +11,14 @@ use Rattle.ds_value.specs.declared.value.Value.TheVariants as value
 use Rattle.ds_value.specs.Kinds.{fits_kind, greatest_int, is_between, least_int}
 use Rattle.ds_value.specs.Values.{number}
 use Rattle.ds_schema.specs.declared.schema.Field.{Field}
-use Rattle.ds_schema.specs.Rows.{at}
-use Rattle.ds_schema.specs.Schemas.{fits_field, row_fits}
+use Rattle.ds_schema.specs.Schemas.{fits_field}
 use Rattle.op_base.specs.Columns.{Row}
-use Rattle.op_base.proofs.All.{all_map, both_true}
-use Rattle.op_group.specs.declared.agg.Agg.{Agg}
-use Rattle.op_group.specs.declared.agg.Agg.TheVariants as made
-use Rattle.op_group.specs.Results.{as_int, as_uint, both, column as column_of, each_result, first_value, greatest, is_dec, is_int, is_null, is_uint, last_value, least, present, result, results, sum_of, total}
-use Rattle.flow_graph.specs.declared.op_kind.AggSpec.{AggSpec}
-use Rattle.flow_graph.specs.declared.op_kind.AggSpec.TheVariants as agg
-use Rattle.op_shape.specs.Causes.{cause_if, first_cause}
+use Rattle.op_group.specs.Results.{as_int, as_uint, column as column_of, first_value, greatest, is_dec, is_int, is_null, is_uint, last_value, least, sum_of, total}
 use Rattle.op_shape.specs.Columns.{field_at}
-use Rattle.op_shape.specs.Naming.{column, has_column}
-use Rattle.op_shape.proofs.Firsts.{none_head}
-use Rattle.op_shape.proofs.Held.{column_within, held}
-use Rattle.op_shape.specs.declared.fault.ShapeWhy.TheVariants as why
-use Rattle.op_shape.specs.Keyed.{can_sum, field_named, made_field, result_cause, result_causes, result_field, source_cause, sum_cause, sum_kind}
+use Rattle.op_shape.specs.Keyed.{can_sum, made_field, sum_kind}
 use Rattle.flow_sound.proofs.Permuted.{greatest_all, least_all}
 use Rattle.flow_sound.proofs.GroupBounds.{few, one_more, within}
 use Rattle.flow_sound.proofs.Picking.{column_fits}
-use Rattle.flow_sound.proofs.SetRows.{both as both_hold}
 use Rattle.flow_sound.proofs.Working.{Fit}
 
 -- ---- the values of a column

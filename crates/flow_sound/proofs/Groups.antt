@@ -1,10 +1,12 @@
 -- Groups of a shaped flow: what the law of flows asks of them, and their rows.
-use Rattle.std.proofs.Common.{◌≡◌, ◌≤◌, ◌+◌, ◌^◌, ◌||◌, ℕ, suc, Bool, true, false, cond, List, [], ◌∷◌, ◌++◌, length, length-append, map, Option, Some, None, refl, sym, ap, ap₂, ◌∙◌, subst, arith}
+use Rattle.std.proofs.Common.{◌≡◌, ◌≤◌, ◌+◌, ◌^◌, ◌||◌, ◌<◌, ℕ, zero, suc, Bool, true, false, cond, List, [], ◌∷◌, get_or, length, length-append, map, Option, Some, None, refl, sym, ap, ap₂, ◌∙◌, subst, arith}
 use Rattle.std.specs.Prelude.{nat_le, nat_lt, if◌then◌else◌, not}
 use Rattle.std.specs.List.{AllByRecursion, list_any}
 use Rattle.std.proofs.lemmas.Bool.Decides.{nat_tests}
 use Rattle.std.proofs.lemmas.List.{length-map}
 use Rattle.std.proofs.lemmas.List.Sums.{count_by-le-length, length-filter}
+use Rattle.ds_value.specs.declared.kind.Kind.{Kind}
+use Rattle.ds_value.specs.declared.kind.Kind.TheVariants as data_kind
 use Rattle.ds_value.specs.declared.value.Value.{Value}
 use Rattle.ds_value.specs.declared.value.Value.TheVariants as value
 use Rattle.ds_schema.specs.declared.schema.Field.{Field}
@@ -13,7 +15,6 @@ use Rattle.ds_schema.specs.Schemas.{fits_field, row_fits}
 use Rattle.op_base.specs.Columns.{Row}
 use Rattle.op_base.specs.Feeds.{by_runs}
 use Rattle.op_base.specs.Meanings.{Grouping, group_rows, input, row_of}
-use Rattle.op_base.proofs.KeyValues.{Keyed}
 use Rattle.op_group.specs.declared.agg.Agg.{Agg}
 use Rattle.op_group.specs.declared.agg.Agg.TheVariants as made
 use Rattle.op_group.specs.Results.{both, column as column_of, each_result, first_value, greatest, in_row_order, is_null, last_value, least, present, result, results}
@@ -25,13 +26,14 @@ use Rattle.flow_graph.specs.Operators.{group, result as result_of}
 use Rattle.flow_graph.specs.Runs.{result_on}
 use Rattle.flow_graph.specs.Shapes.{GroupShape}
 use Rattle.flow_ops.specs.Keyed.{aggs_of, grouping_at}
+use Rattle.flow_ops.specs.Kept.{CanBeSummed, SumsFit}
 use Rattle.op_shape.specs.Causes.{cause_if, first_cause}
 use Rattle.op_shape.specs.Columns.{field_at}
 use Rattle.op_shape.specs.Naming.{column, has_column, has_keys, key_columns}
 use Rattle.op_shape.specs.declared.fault.ShapeWhy.TheVariants as why
 use Rattle.op_shape.proofs.Firsts.{none_head}
 use Rattle.op_shape.proofs.Held.{column_within, held}
-use Rattle.op_shape.specs.Keyed.{can_sum, field_named, group_fields, result_cause, result_causes, result_field, source_cause, source_columns, sum_cause, sum_kind}
+use Rattle.op_shape.specs.Keyed.{can_sum, field_named, group_fields, result_cause, result_causes, result_field, source_cause, source_columns}
 use Rattle.flow_sound.proofs.Permuted.{results_permuted}
 use Rattle.flow_sound.proofs.ByKeys.{Come, RuleFits, runs_fit, values_fit}
 use Rattle.flow_sound.proofs.GroupResults.{column_all, first_fits, greatest_fits, last_fits, least_fits, present_all, renamed_fits, some_is, sum_fits}
@@ -189,9 +191,11 @@ module _ (o : ℕ) (hash : Bool) (key : List (List ℕ × Bool)) (specs : List A
       go : (x : Option (List Value)) → g.results (r ∷ rows) ≡ x → Fit (group_fields key specs fields) (row_of v x)
       go None f = tt
       go (Some xs) f =
-          let few = few_rows (aggs_on specs fields) (r ∷ rows) xs f in
-          (rows_beside (map (λ (k : List ℕ × Bool). field_named fields (k.0)) key) (map (result_field fields) specs) v xs keyed
-          (each_fits fields r rows h few.0 specs sound xs (ap (λ as1. each_result as1 (r ∷ rows)) (sym (aggs_are specs fields)) ∙ few.1)), tt)
+          let few = few_rows (aggs_on specs fields) (r ∷ rows) xs f in (
+            rows_beside (map (λ (k : List ℕ × Bool). field_named fields (k.0)) key) (map (result_field fields) specs) v xs keyed
+                (each_fits fields r rows h few.0 specs sound xs (ap (λ as1. each_result as1 (r ∷ rows)) (sym (aggs_are specs fields)) ∙ few.1)),
+            tt,
+          )
 
   rule_fits : RuleFits (fields ∷ []) (cols g.keys ∷ []) (group_fields key specs fields) (λ v same. group_rows g v (input 0 same))
   rule_fits v [] k h = tt
@@ -207,3 +211,39 @@ module _ (o : ℕ) (hash : Bool) (key : List (List ℕ × Bool)) (specs : List A
       go : (b : Bool) → Fit (group_fields key specs fields) (cond b (result_of (group g) q inputs) (by_runs (ways g.keys) (cols g.keys ∷ []) (λ v same. group_rows g v (input 0 same)) inputs))
       go true = group_fits q inputs h
       go false = runs_fit (fields ∷ []) (cols g.keys ∷ []) (group_fields key specs fields) (λ v same. group_rows g v (input 0 same)) rule_fits (ways g.keys) inputs h
+
+-- ---- sums
+
+can_be : (k : Kind) → can_sum k ≡ true → CanBeSummed k
+can_be (data_kind.Int bits) e = tt
+can_be (data_kind.UInt bits) e = tt
+can_be (data_kind.Dec p s) e = grind (arith, nat_tests, e)
+can_be (data_kind.Text max fixed) e = cc
+can_be data_kind.Date e = cc
+
+-- a column that is there
+only_field : (fields : List Field) (c : ℕ) (f : Field) → c < length fields → get_or (map (λ (g : Field). g ∷ []) fields) c [] ≡ f ∷ [] → field_at fields c ≡ f
+only_field [] c f l e = absurd (omega (arith, l))
+only_field (g ∷ fields) zero f l e = cc
+only_field (g ∷ fields) (suc c) f l e = only_field fields c f (omega (arith, l)) e
+
+one_sums : (fields : List Field) (a : AggSpec) → result_cause fields a ≡ None → SumsFit fields (agg_on fields a)
+one_sums fields (agg.Sum new old) e =
+    λ f h.
+    let parts = none_head (source_cause fields old) (cause_if (not (can_sum (field_named fields old).kind)) why.Kind ∷ []) e in
+    let within = column_within fields old (held (has_column fields old) why.Field parts.0) in
+    subst (λ (g : Field). CanBeSummed g.kind) (only_field fields (column fields old) f within h)
+    (can_be (field_named fields old).kind (held (can_sum (field_named fields old).kind) why.Kind (none_head (cause_if (not (can_sum (field_named fields old).kind)) why.Kind) [] parts.1).0))
+one_sums fields (agg.Count new) e = tt
+one_sums fields (agg.Min new old) e = tt
+one_sums fields (agg.Max new old) e = tt
+one_sums fields (agg.First new old) e = tt
+one_sums fields (agg.Last new old) e = tt
+
+all_sum : (fields : List Field) (specs : List AggSpec) → first_cause (result_causes specs fields) ≡ None → AllByRecursion (SumsFit fields) (map (agg_on fields) specs)
+all_sum fields [] e = tt
+all_sum fields (a ∷ specs) e = let parts = none_head (result_cause fields a) (result_causes specs fields) e in (one_sums fields a parts.0, all_sum fields specs parts.1)
+
+-- what a group sums can be summed
+pub sums_fit : (fields : List Field) (specs : List AggSpec) → first_cause (result_causes specs fields) ≡ None → AllByRecursion (SumsFit fields) (aggs_on specs fields)
+sums_fit fields specs e = subst (AllByRecursion (SumsFit fields)) (sym (aggs_are specs fields)) (all_sum fields specs e)

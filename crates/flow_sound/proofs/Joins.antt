@@ -1,5 +1,5 @@
 -- Joins of a shaped flow: what the law of flows asks of them, and their rows.
-use Rattle.std.proofs.Common.{◌≡◌, ◌+◌, ℕ, suc, Bool, true, false, cond, List, [], ◌∷◌, ◌++◌, length, length-append, map, flat_map, refl, sym, ap, ap₂, ◌∙◌, subst}
+use Rattle.std.proofs.Common.{◌≡◌, ◌+◌, ℕ, Bool, true, false, cond, List, [], ◌∷◌, ◌++◌, length, length-append, map, flat_map, refl, sym, ap, ap₂, ◌∙◌, subst}
 use Rattle.std.specs.List.{AllByRecursion}
 use Rattle.std.proofs.lemmas.List.{length-map}
 use Rattle.ds_value.specs.declared.value.Value.{Value}
@@ -8,8 +8,7 @@ use Rattle.ds_schema.specs.Rows.{cols, val, ways}
 use Rattle.ds_schema.specs.Schemas.{row_fits}
 use Rattle.op_base.specs.Columns.{Row, no_row}
 use Rattle.op_base.specs.Meanings.{Join, join_row, join_rows, join_rule}
-use Rattle.op_base.proofs.All.{all_append, all_cond}
-use Rattle.op_base.proofs.KeyValues.{Keyed}
+use Rattle.op_base.proofs.All.{all_append}
 use Rattle.op_join.specs.declared.kind.JoinKind.{JoinKind}
 use Rattle.op_join.specs.Joining.{joining, keeps_left, keeps_right}
 use Rattle.flow_graph.specs.Operators.{join, result}

@@ -1,13 +1,12 @@
 -- Groups, joins and lookups of a shaped flow, whatever their kind.
-use Rattle.std.proofs.Common.{◌≡◌, ◌<◌, ℕ, zero, suc, Bool, List, [], ◌∷◌, length, map, get_or, refl, sym, ap, ap₂, ◌∙◌, subst, arith, inl, inr, Option, None}
-use Rattle.std.specs.Prelude.{⊤}
+use Rattle.std.proofs.Common.{◌≡◌, ◌<◌, ℕ, Bool, List, [], ◌∷◌, length, map, get_or, refl, sym, ap, ap₂, ◌∙◌, subst, arith, Option, None}
 use Rattle.std.specs.List.{AllByRecursion, list_any}
 use Rattle.std.proofs.lemmas.List.{length-map}
 use Rattle.ds_schema.specs.declared.key.Key.{Key}
 use Rattle.ds_schema.specs.declared.schema.Field.{Field}
 use Rattle.ds_schema.specs.Rows.{KeysDiffer}
 use Rattle.op_base.specs.Columns.{Row, all_columns}
-use Rattle.op_base.specs.Meanings.{Join, Looking, input}
+use Rattle.op_base.specs.Meanings.{Looking, input}
 use Rattle.op_base.specs.Keyed.{get_keys}
 use Rattle.op_base.specs.declared.missing.Missing.{Missing}
 use Rattle.op_join.specs.declared.kind.JoinKind.{JoinKind}
@@ -15,7 +14,6 @@ use Rattle.op_join.specs.declared.kind.JoinKind.TheVariants as kept
 use Rattle.op_join.specs.Joining.{joining}
 use Rattle.flow_graph.specs.declared.op_kind.OpKind.{OpKind}
 use Rattle.flow_graph.specs.declared.op_kind.OpKind.TheVariants as kind
-use Rattle.flow_graph.specs.declared.op_kind.AggSpec.{AggSpec}
 use Rattle.flow_graph.specs.declared.parts.OpParts.{OpParts}
 use Rattle.flow_graph.specs.declared.parts.Stored.{Stored}
 use Rattle.flow_graph.specs.declared.flow.Flow.{Flow}
@@ -25,16 +23,16 @@ use Rattle.flow_graph.specs.Forms.{form, group as group_form, lookup as lookup_f
 use Rattle.flow_graph.specs.Operators.{Op, group, join, lookup, result}
 use Rattle.flow_graph.specs.Runs.{result_on}
 use Rattle.flow_graph.specs.Shapes.{FitsPorts, HasPort, IsShaped, KeysDistinct}
-use Rattle.flow_ops.specs.Keyed.{aggs_of, group_of, grouping_at, join_of, lookup_of}
-use Rattle.op_group.specs.Results.{grouping, in_row_order}
+use Rattle.flow_ops.specs.Keyed.{aggs_of, group_of, lookup_of}
+use Rattle.op_group.specs.Results.{in_row_order}
 use Rattle.op_shape.specs.Causes.{first_cause}
-use Rattle.op_shape.specs.Keyed.{result_causes, source_columns}
+use Rattle.op_shape.specs.Keyed.{result_causes}
 use Rattle.op_shape.specs.Naming.{key_columns}
 use Rattle.op_shape.specs.Options.{IsFed, IsKeyed, both_keys, first_fields, key_cause, operator_parts, option_causes, output_fields, second_fields}
 use Rattle.op_shape.specs.declared.fault.ShapeWhy.TheVariants as why
 use Rattle.op_shape.proofs.Firsts.{none_head}
 use Rattle.op_shape.proofs.Held.{AreBoth, are_both, held}
-use Rattle.flow_shape.specs.Refusals.{IsShapeOf, fields_at, inputs_at, kind_at}
+use Rattle.flow_shape.specs.Refusals.{IsShapeOf, fields_at, inputs_at}
 use Rattle.flow_sound.specs.Fitting.{RowsFit}
 use Rattle.flow_sound.specs.Kinds.{IsJoin, IsOfKind}
 use Rattle.flow_sound.proofs.ByKeys.{Come}

@@ -1,16 +1,14 @@
 -- Lookups of a shaped flow: what the law of flows asks of them, and their rows.
 use mathlib.Core.Path.{fun_ext}
-use Rattle.std.proofs.Common.{◌≡◌, ◌+◌, ◌&&◌, ℕ, zero, suc, Bool, true, false, List, [], ◌∷◌, ◌++◌, length, length-append, map, flat_map, refl, sym, ap, ap₂, ◌∙◌, subst}
-use Rattle.std.specs.List.{AllByRecursion}
+use Rattle.std.proofs.Common.{◌≡◌, ◌+◌, ◌&&◌, ℕ, zero, suc, Bool, true, List, [], ◌∷◌, ◌++◌, length, length-append, map, flat_map, refl, sym, ap, ap₂, ◌∙◌}
 use Rattle.std.proofs.lemmas.List.{length-map}
-use Rattle.ds_value.specs.declared.value.Value.{Value}
 use Rattle.ds_schema.specs.declared.schema.Field.{Field}
 use Rattle.ds_schema.specs.Rows.{cols, has, sub, val}
-use Rattle.ds_schema.specs.Schemas.{fits_field, row_fits}
+use Rattle.ds_schema.specs.Schemas.{row_fits}
 use Rattle.op_base.specs.declared.missing.Missing.{Missing}
 use Rattle.op_base.specs.declared.missing.Missing.TheVariants as missing
 use Rattle.op_base.specs.Columns.{Row, all_columns, no_row, only, pairs_of}
-use Rattle.op_base.specs.Meanings.{Looking, if_continues, if_rejected, input, looked_row}
+use Rattle.op_base.specs.Meanings.{Looking, if_continues, if_rejected, looked_row}
 use Rattle.op_base.proofs.All.{all_filter}
 use Rattle.op_base.proofs.ColumnLaws.{length-range_with}
 use Rattle.op_lookup.specs.Looked.{missing_fault, others_of}
@@ -21,7 +19,7 @@ use Rattle.flow_graph.specs.Operators.{lookup, result}
 use Rattle.flow_graph.specs.RowRules.{at_op}
 use Rattle.op_shape.specs.Naming.{key_columns}
 use Rattle.op_shape.specs.Options.{made_or_rejected}
-use Rattle.op_shape.specs.Keyed.{continues, is_key, field_named, lookup_fields, main_field, nullable_if, other_columns, other_fields}
+use Rattle.op_shape.specs.Keyed.{continues, is_key, field_named, lookup_fields, main_field, nullable_if, other_fields}
 use Rattle.flow_sound.proofs.ByKeys.{Come}
 use Rattle.flow_sound.proofs.Joins.{each_given, others_long}
 use Rattle.flow_sound.proofs.Picking.{Widens, may_be_null, no_others_fit, others_fit, rows_beside, widened_fits}

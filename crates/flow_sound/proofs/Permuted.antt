@@ -1,5 +1,5 @@
 -- The least and the greatest of some values, and sums, are the same of permuted rows.
-use Rattle.std.proofs.Common.{◌≡◌, ℕ, suc, ◌+◌, ◌^◌, ◌||◌, ◌==◌, ℤ, pos, negsuc, ◌+ℤ◌, Bool, true, false, cond, not, List, [], ◌∷◌, ◌++◌, Option, Some, None, count_by, filter, flat_map, length, map, sum_by, refl, sym, ap, ap₂, ◌∙◌, subst, true≢false, arith, IsPermutation}
+use Rattle.std.proofs.Common.{◌≡◌, ℕ, suc, ◌+◌, ◌^◌, ◌||◌, ◌==◌, ℤ, pos, negsuc, ◌+ℤ◌, Bool, true, false, cond, not, List, [], ◌∷◌, ◌++◌, Option, Some, None, count_by, flat_map, length, sum_by, refl, sym, ap, ap₂, ◌∙◌, subst, true≢false, arith, IsPermutation}
 use Rattle.std.specs.Prelude.{fold, nat_le, if◌then◌else◌}
 use Rattle.std.specs.List.{AllByRecursion, list_any}
 use Rattle.std.specs.Cmp.{IsTotalOrder}
@@ -17,7 +17,6 @@ use Rattle.ds_value.specs.declared.value.Value.TheVariants as value
 use Rattle.ds_value.specs.Values.{number, value_cmp}
 use Rattle.ds_schema.specs.Rows.{at}
 use Rattle.op_base.specs.Columns.{Row}
-use Rattle.op_base.proofs.All.{all_map}
 use Rattle.op_base.proofs.Bags.{count-cons, count-permutation, permuted_long}
 use Rattle.op_base.proofs.Orders.{value_exact, value_total}
 use Rattle.op_base.proofs.RowLists.{flat_rows_permuted}

@@ -1,11 +1,10 @@
 -- What the operators by rows of a shaped flow make of a row.
-use Rattle.std.proofs.Common.{◌≡◌, ◌<◌, ℕ, zero, suc, not, Bool, true, List, [], ◌∷◌, length, map, refl, sym, ap, subst, ◌∙◌, arith, Option, Some, None, Result, Ok, Err}
+use Rattle.std.proofs.Common.{◌≡◌, ℕ, suc, not, Bool, true, List, [], ◌∷◌, length, map, refl, sym, ap, subst, ◌∙◌, arith, Option, Some, None, Result, Ok, Err}
 use Rattle.std.specs.Prelude.{if◌then◌else◌, ⊤}
 use Rattle.std.specs.List.{AllByRecursion}
 use Rattle.ds_value.specs.declared.value.Value.{Value}
 use Rattle.ds_value.specs.declared.value.Value.TheVariants as value
 use Rattle.ds_schema.specs.declared.schema.Field.{Field}
-use Rattle.ds_schema.specs.Rows.{at, val}
 use Rattle.ds_schema.specs.Schemas.{IsSchema, fits_field, row_fits}
 use Rattle.expr_table.specs.declared.arg.Arg.{Arg}
 use Rattle.expr_table.specs.declared.arg.EvalFault.{EvalFault}
@@ -35,7 +34,7 @@ use Rattle.flow_graph.specs.RowRules.{ExprsFit, sets_of}
 use Rattle.op_shape.specs.declared.fault.ShapeWhy.TheVariants as why
 use Rattle.op_shape.proofs.Firsts.{none_head}
 use Rattle.op_shape.specs.Causes.{first_cause}
-use Rattle.op_shape.specs.Columns.{field_at, renamed, set_columns, set_fields}
+use Rattle.op_shape.specs.Columns.{renamed, set_columns, set_fields}
 use Rattle.op_shape.specs.Exprs.{expr_cause, expr_over, is_set, read_over, set_causes, some_tree, suits, tree_over, typed_text}
 use Rattle.op_shape.specs.Options.{operator_parts, option_causes}
 use Rattle.flow_sound.proofs.Assigned.{assigned_fits}

@@ -1,7 +1,7 @@
 //! The laws of flows of the operators that are built. Each function's contract is its law, and
 //! calling it does nothing.
 
-ghost use Rattle.flow_sound.specs.Fitting.{ExportsFit, MeaningFits, RowsStay};
+ghost use Rattle.flow_sound.specs.Fitting.{ExportsFit, KeyedRowsStay, MeaningFits, RowsStay};
 ghost use Rattle.flow_sound.specs.Promise.{HasMeaning, HasOneMeaning, FormsFit, OperatorsFit, AcceptedRunsKeep};
 ghost use Rattle.flow_sound.specs.Tallies.{ExportIsTallied, RunIsTallied};
 
@@ -40,7 +40,9 @@ pub fn rows_fit_schemas()
     ensures exports { ExportsFit }
 {}
 
-/// Filter, transform, modify and switch make rows that fit of rows that fit.
+/// Filter, transform, modify and switch make rows that fit of rows that fit. So do groups, joins
+/// and lookups, partition by partition, and their columns are such as a run asks.
 pub fn rows_stay()
-    ensures { RowsStay }
+    ensures by_row { RowsStay }
+    ensures by_key { KeyedRowsStay }
 {}
