@@ -41,6 +41,12 @@ same_op files c o (kind.Modify keep drop rename) ins a b stands none x y = x ∙
 same_op files c o (kind.Switch on cases reject) ins a b stands none x y = x ∙ sym y
 same_op files c o (kind.Tsort key) ins a b stands none x y = x ∙ sym y
 same_op files c o (kind.Remdup key last) ins a b stands none x y = x ∙ sym y
+same_op files c o (kind.Group key hash results) ins a b stands none x y = x ∙ sym y
+same_op files c o (kind.InnerJoin key) ins a b stands none x y = x ∙ sym y
+same_op files c o (kind.LeftOuterJoin key) ins a b stands none x y = x ∙ sym y
+same_op files c o (kind.RightOuterJoin key) ins a b stands none x y = x ∙ sym y
+same_op files c o (kind.FullOuterJoin key) ins a b stands none x y = x ∙ sym y
+same_op files c o (kind.Lookup key missing) ins a b stands none x y = x ∙ sym y
 same_op files c o k ins a b stands none x y = absurd x
 
 same_nodes : (c : Chart) (a b : ℕ → Op) (order : List ℕ) → ((o : ℕ) → IsIn o order → a o ≡ b o) → map (node_at c a) order ≡ map (node_at c b) order
