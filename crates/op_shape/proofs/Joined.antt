@@ -17,8 +17,8 @@ use Rattle.op_shape.specs.declared.fault.ShapeWhy.{ShapeWhy}
 use Rattle.op_shape.specs.declared.fault.ShapeWhy.TheVariants as why
 use Rattle.op_shape.specs.Causes.{cause_if, first_cause}
 use Rattle.op_shape.specs.Columns.{field_at, no_field}
-use Rattle.op_shape.specs.Keyed.{can_sum, continues, field_named, group_fields, join_fields, joined_key, lookup_fields, main_field, nullable_if, other_columns, other_fields, result_cause, result_causes, result_field, result_name, source_cause, source_columns, sources, sum_cause, sum_kind, both_cause}
-use Rattle.op_shape.specs.Naming.{column, has_column, has_keys, key_columns}
+use Rattle.op_shape.specs.Keyed.{can_sum, continues, field_named, group_fields, join_fields, joined_key, lookup_fields, main_field, nullable_if, other_columns, other_fields, result_cause, result_causes, result_field, result_name, source, source_cause, source_columns, sources, sum_cause, sum_kind, with_source, both_cause}
+use Rattle.op_shape.specs.Naming.{column, columns, has_column, has_keys, key_columns}
 use Rattle.op_shape.specs.Options.{key_cause}
 use Rattle.op_shape.specs.Widths.{fields_cause}
 use Rattle.op_shape.proofs.Firsts.{none_both, none_head}
@@ -110,3 +110,20 @@ lookup_each key missing main reference a b = all_append IsField _ _ (mains_each 
 -- what is made has fields such as a schema may have
 pub both_made : (key : List (List ℕ × Bool)) (left right made : List Field) → first_cause (both_cause key left right ∷ (fields_cause made ∷ [])) ≡ None → fields_cause made ≡ None
 both_made key left right made e = (none_head (fields_cause made) [] (none_head (both_cause key left right) _ e).1).0
+
+-- ---- the columns that a group's results are made of
+
+source_lies : (fields : List Field) (old : List ℕ) (names : List (List ℕ)) → has_column fields old ≡ true → Lies (columns fields names) (all_columns (length fields)) → Lies (columns fields (old ∷ names)) (all_columns (length fields))
+source_lies fields old names h l = (column_in fields old h, l)
+
+result_lies : (fields : List Field) (a : AggSpec) (names : List (List ℕ)) → result_cause fields a ≡ None → Lies (columns fields names) (all_columns (length fields)) → Lies (columns fields (with_source (source a) names)) (all_columns (length fields))
+result_lies fields (agg.Sum new old) names e l = source_lies fields old names (sum_there fields old e).0 l
+result_lies fields (agg.Count new) names e l = l
+result_lies fields (agg.Min new old) names e l = source_lies fields old names (source_there fields old e) l
+result_lies fields (agg.Max new old) names e l = source_lies fields old names (source_there fields old e) l
+result_lies fields (agg.First new old) names e l = source_lies fields old names (source_there fields old e) l
+result_lies fields (agg.Last new old) names e l = source_lies fields old names (source_there fields old e) l
+
+pub sources_lie : (results : List AggSpec) (fields : List Field) → first_cause (result_causes results fields) ≡ None → Lies (source_columns results fields) (all_columns (length fields))
+sources_lie [] fields e = tt
+sources_lie (a ∷ results) fields e = let both = none_head (result_cause fields a) (result_causes results fields) e in result_lies fields a (sources results) both.0 (sources_lie results fields both.1)
