@@ -1,6 +1,6 @@
 -- Flows that are built are of known operators, and each link is routed.
-use Rattle.std.proofs.Common.{◌≡◌, ◌<◌, ◌∙◌, ◌&&◌, ◌||◌, not, ℕ, zero, suc, Bool, true, false, List, [], ◌∷◌, length, get_or, map, ap, sym, subst, refl, arith, Option, Some, None}
-use Rattle.std.specs.List.{list_all, AllByRecursion, range_with_len}
+use Rattle.std.proofs.Common.{◌≡◌, ◌∙◌, ◌&&◌, ◌||◌, not, ℕ, zero, suc, Bool, true, false, List, [], ◌∷◌, length, get_or, ap, sym, subst, refl, arith, Option, Some, None}
+use Rattle.std.specs.List.{list_all, AllByRecursion}
 use Rattle.std.specs.Option.{is_some}
 use Rattle.std.proofs.lemmas.List.FromFn.{get_or-map-range_with_len}
 use Rattle.ds_schema.specs.declared.schema.Field.{Field}
@@ -19,7 +19,7 @@ use Rattle.flow_graph.specs.declared.route.Route.{Route}
 use Rattle.flow_graph.specs.Charts.{Chart, no_link, no_op, no_parts, link_at, op_at, into_seq, is_seq, keys_at, cols_at, first_width, form_at, kind_form}
 use Rattle.flow_graph.specs.FlowShape.{IsShape}
 use Rattle.flow_graph.specs.Forms.{join, sort_key}
-use Rattle.flow_rules.specs.Verdicts.{IsRouted, unsorted, routed_at}
+use Rattle.flow_rules.specs.Verdicts.{IsRouted, unsorted}
 use Rattle.flow_shape.proofs.Causing.{all_at}
 use Rattle.flow_shape.specs.Methods.{written_route}
 use Rattle.op_shape.specs.Options.{IsKnown, both_keys, operator_keys}

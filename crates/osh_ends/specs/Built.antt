@@ -1,5 +1,5 @@
 -- The flows that are built: which operators, methods and flags a flow may have today.
-use Rattle.std.specs.Prelude.{ℕ, Bool, true, false, not, ◌&&◌, List, ◌∷◌, get_or}
+use Rattle.std.specs.Prelude.{ℕ, Bool, true, false, not, ◌&&◌, List, [], ◌∷◌, get_or}
 use Rattle.std.specs.List.{list_all}
 use Rattle.flow_graph.specs.Charts.{no_op, is_seq}
 use Rattle.flow_graph.specs.declared.flow.Flag.{Flag}

@@ -1,5 +1,5 @@
 -- Over the same files a flow means one thing: its operators are the same, and so are their faults.
-use Rattle.std.proofs.Common.{◌≡◌, ℕ, inl, inr, List, [], ◌∷◌, ◌++◌, map, refl, sym, ap, ap₂, ◌∙◌, subst, Option, None}
+use Rattle.std.proofs.Common.{◌≡◌, ℕ, inl, inr, List, [], ◌∷◌, ◌++◌, map, refl, sym, ap, ap₂, ◌∙◌, subst, None}
 use Rattle.std.specs.List.{AllByRecursion}
 use Rattle.ds_port.specs.FileMap.{FileMap}
 use Rattle.ds_schema.specs.declared.schema.Field.{Field}

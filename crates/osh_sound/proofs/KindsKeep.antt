@@ -41,19 +41,19 @@ use Rattle.osh_value.specs.declared.value.OptValue.{OptValue}
 use Rattle.osh_value.specs.declared.value.OptValue.TheVariants as value
 use Rattle.osh_value.specs.declared.setting.Setting.{Setting}
 use Rattle.osh_value.specs.Values.{content_of, file_value, schema_value, delim_value, missing_named, kept_expression, set_value, new_name_at, rename_at, renames_at, cases_at, widths_at, said_at, whole_at, if_read, unless_bad, inside, value_of}
-use Rattle.osh_value.specs.Kinds.{number_of, found_value, stands, name_in, schema_in, delim_in, widths_in, keys_in, renames_in, expression_in, cases_in, set_in, sets_of, result_in, results_of, with_value, transform_by, kind_of}
+use Rattle.osh_value.specs.Kinds.{number_of, found_value, stands, name_in, schema_in, delim_in, widths_in, keys_in, renames_in, expression_in, cases_in, result_in, results_of, set_in, sets_of, with_value, transform_by, kind_of}
 use Rattle.osh_read.specs.Stages.{plain_mark, bears}
 use Rattle.osh_sound.specs.Grammar.{WrittenOption, setting_of, value_phrase, options_phrase, mark_word, mark_phrase}
 use Rattle.osh_sound.specs.Sound.{AreWidths, FormStands, MarkFits}
-use Rattle.osh_sound.proofs.ListsKeep.{widths_good, renames_good, cases_good, set_good, new_name_good, rename_good}
+use Rattle.osh_sound.proofs.ListsKeep.{widths_good, renames_good, cases_good, new_name_good, rename_good, set_good}
 
 some_is : {A : Type 0} (x y : A) → (let o : Option A = Some x in o) ≡ Some y → x ≡ y
 some_is x y h = cc
 
 -- ---- values
 
--- the names of a key list differ, a delimiter and widths are such as records can have, new names, results and fields are
--- such as schemas have, and no case stands twice
+-- the names of a key list differ, a delimiter and widths are such as records can have, new names and fields are such as
+-- schemas have, those of a group's results too, and no case stands twice
 abbrev GoodValue : OptValue → Type 0
 GoodValue (value.Keys keys) = NamesDiffer keys
 GoodValue (value.Delim b) = IsDelimiter b
