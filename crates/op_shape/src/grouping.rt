@@ -134,11 +134,7 @@ fn result_field(fields: &[Field], agg: &AggSpec) -> Result<Field, NoMemory>
     }
 }
 
-fn key_fields(
-    alloc: Global,
-    key: &[(Name, bool)],
-    fields: &[Field],
-) -> Result<Vec<Field>, NoMemory>
+fn key_fields(alloc: Global, key: &[(Name, bool)], fields: &[Field]) -> Result<Vec<Field>, NoMemory>
     requires { has_keys fields.now key.now ≡ true }
     ensures { IfOk result (λ made. made.items ≡ map (λ (k : List ℕ × Bool). field_named fields.now (k.0)) key.now) }
 {

@@ -21,6 +21,26 @@ pub struct Lost {
     pub right: bool,
 }
 
+pub const INNER: Lost = Lost {
+    left: false,
+    right: false,
+};
+
+pub const LEFT_OUTER: Lost = Lost {
+    left: false,
+    right: true,
+};
+
+pub const RIGHT_OUTER: Lost = Lost {
+    left: true,
+    right: false,
+};
+
+pub const FULL_OUTER: Lost = Lost {
+    left: true,
+    right: true,
+};
+
 fn same_kind(a: Kind, b: Kind) -> bool
     ensures { result ≡ same_kind a b }
 {

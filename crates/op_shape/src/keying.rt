@@ -61,11 +61,7 @@ pub fn is_key(key: &[(Name, bool)], name: &Name) -> bool
     key.iter().any(|part| part.0.as_slice() == name.as_slice())
 }
 
-fn columns_of(
-    alloc: Global,
-    key: &[(Name, bool)],
-    fields: &[Field],
-) -> Result<Vec<u32>, NoMemory>
+fn columns_of(alloc: Global, key: &[(Name, bool)], fields: &[Field]) -> Result<Vec<u32>, NoMemory>
     requires { length fields.now < 2 ^ 32 }
     ensures { IfOk result (λ found. found.items ≡ cols (key_columns fields.now key.now)) }
 {

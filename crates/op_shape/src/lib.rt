@@ -23,4 +23,6 @@ pub use outputs::{line_schema, output_schema};
 pub use parts::operator_parts;
 
 #[cfg(test)]
+mod keyed_tests;
+#[cfg(test)]
 mod tests;

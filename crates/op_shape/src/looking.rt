@@ -16,11 +16,7 @@ use op_base::Missing;
 use std::alloc::Global;
 
 /// A main column; a key may be null where it may on either side.
-fn main_field(
-    key: &[(Name, bool)],
-    reference: &[Field],
-    field: &Field,
-) -> Result<Field, NoMemory>
+fn main_field(key: &[(Name, bool)], reference: &[Field], field: &Field) -> Result<Field, NoMemory>
     ensures { IfOk result (λ made. made ≡ main_field key.now reference.now field.now) }
 {
     let test = is_key(key, &field.name) && is_nullable(reference, &field.name);

@@ -11,7 +11,7 @@ use crate::ShapeWhy;
 use crate::expressions::{on_cause, set_causes, test_cause};
 use crate::grouping::group_cause;
 use crate::inputs::{first, second};
-use crate::joining::{Lost, join_cause};
+use crate::joining::{FULL_OUTER, INNER, LEFT_OUTER, RIGHT_OUTER, join_cause};
 use crate::looking::lookup_cause;
 use crate::modifying::{columns_cause, modified_fields, renames_cause};
 use crate::naming::has_keys;
@@ -132,11 +132,7 @@ pub fn own_cause(
 }
 
 /// Of an operator by keys.
-fn keyed_cause(
-    alloc: Global,
-    kind: &OpKind,
-    ins: &[&Schema],
-) -> Result<Option<ShapeWhy>, NoMemory>
+fn keyed_cause(alloc: Global, kind: &OpKind, ins: &[&Schema]) -> Result<Option<ShapeWhy>, NoMemory>
     requires keyed { IsKeyed kind.now }
     requires fed { IsFed kind.now (length ins.now) }
     ensures { IfOk result (λ cause. cause ≡ first_cause (option_causes kind.now (map (λ s. s.now) ins.now) ++ output_causes kind.now (map (λ s. s.now) ins.now))) }
@@ -146,16 +142,16 @@ fn keyed_cause(
             group_cause(alloc, key.as_slice(), results.as_slice(), first(ins))
         }
         OpKind::InnerJoin { key } => {
-            join_cause(alloc, key.as_slice(), Lost { left: false, right: false }, first(ins), second(ins))
+            join_cause(alloc, key.as_slice(), INNER, first(ins), second(ins))
         }
         OpKind::LeftOuterJoin { key } => {
-            join_cause(alloc, key.as_slice(), Lost { left: false, right: true }, first(ins), second(ins))
+            join_cause(alloc, key.as_slice(), LEFT_OUTER, first(ins), second(ins))
         }
         OpKind::RightOuterJoin { key } => {
-            join_cause(alloc, key.as_slice(), Lost { left: true, right: false }, first(ins), second(ins))
+            join_cause(alloc, key.as_slice(), RIGHT_OUTER, first(ins), second(ins))
         }
         OpKind::FullOuterJoin { key } => {
-            join_cause(alloc, key.as_slice(), Lost { left: true, right: true }, first(ins), second(ins))
+            join_cause(alloc, key.as_slice(), FULL_OUTER, first(ins), second(ins))
         }
         OpKind::Lookup { key, missing } => {
             lookup_cause(alloc, key.as_slice(), *missing, first(ins), second(ins))

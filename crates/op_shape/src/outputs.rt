@@ -12,7 +12,7 @@ ghost use Rattle.op_shape.specs.Options.{IsKeyed, IsKnown, IsFed, OptionsStand, 
 
 use crate::grouping::group_schema;
 use crate::inputs::{first, second};
-use crate::joining::{Lost, join_schema};
+use crate::joining::{FULL_OUTER, INNER, LEFT_OUTER, RIGHT_OUTER, join_schema};
 use crate::looking::lookup_schema;
 use crate::modifying::modified_fields;
 use crate::setting::set_fields;
@@ -134,12 +134,7 @@ pub fn output_schema(
 }
 
 /// Of an operator by keys.
-fn keyed_schema(
-    alloc: Global,
-    kind: &OpKind,
-    ins: &[&Schema],
-    out: u32,
-) -> Result<Schema, NoMemory>
+fn keyed_schema(alloc: Global, kind: &OpKind, ins: &[&Schema], out: u32) -> Result<Schema, NoMemory>
     requires keyed { IsKeyed kind.now }
     requires fed { IsFed kind.now (length ins.now) }
     requires sound { first_cause (option_causes kind.now (map (λ s. s.now) ins.now) ++ output_causes kind.now (map (λ s. s.now) ins.now)) ≡ None }
@@ -151,19 +146,26 @@ fn keyed_schema(
             group_schema(alloc, key.as_slice(), results.as_slice(), first(ins))
         }
         OpKind::InnerJoin { key } => {
-            join_schema(alloc, key.as_slice(), Lost { left: false, right: false }, first(ins), second(ins))
+            join_schema(alloc, key.as_slice(), INNER, first(ins), second(ins))
         }
         OpKind::LeftOuterJoin { key } => {
-            join_schema(alloc, key.as_slice(), Lost { left: false, right: true }, first(ins), second(ins))
+            join_schema(alloc, key.as_slice(), LEFT_OUTER, first(ins), second(ins))
         }
         OpKind::RightOuterJoin { key } => {
-            join_schema(alloc, key.as_slice(), Lost { left: true, right: false }, first(ins), second(ins))
+            join_schema(alloc, key.as_slice(), RIGHT_OUTER, first(ins), second(ins))
         }
         OpKind::FullOuterJoin { key } => {
-            join_schema(alloc, key.as_slice(), Lost { left: true, right: true }, first(ins), second(ins))
+            join_schema(alloc, key.as_slice(), FULL_OUTER, first(ins), second(ins))
         }
         OpKind::Lookup { key, missing } => {
-            lookup_schema(alloc, key.as_slice(), *missing, first(ins), second(ins), out)
+            lookup_schema(
+                alloc,
+                key.as_slice(),
+                *missing,
+                first(ins),
+                second(ins),
+                out,
+            )
         }
         _ => unreachable!(),
     }

@@ -53,11 +53,7 @@ fn both_keys(
 }
 
 /// The key lists of an operator, one for each input.
-fn operator_keys(
-    alloc: Global,
-    kind: &OpKind,
-    ins: &[&Schema],
-) -> Result<Items<KeyList>, NoMemory>
+fn operator_keys(alloc: Global, kind: &OpKind, ins: &[&Schema]) -> Result<Items<KeyList>, NoMemory>
     requires known { IsKnown kind.now }
     requires fed { IsFed kind.now (length ins.now) }
     requires sound { first_cause (option_causes kind.now (map (λ s. s.now) ins.now) ++ output_causes kind.now (map (λ s. s.now) ins.now)) ≡ None }
@@ -84,11 +80,7 @@ fn operator_keys(
 
 /// The columns that a transform sets, those that a modify keeps, and those of a group's results
 /// without its counts.
-fn operator_columns(
-    alloc: Global,
-    kind: &OpKind,
-    ins: &[&Schema],
-) -> Result<Items<u32>, NoMemory>
+fn operator_columns(alloc: Global, kind: &OpKind, ins: &[&Schema]) -> Result<Items<u32>, NoMemory>
     requires known { IsKnown kind.now }
     requires fed { IsFed kind.now (length ins.now) }
     requires sound { first_cause (option_causes kind.now (map (λ s. s.now) ins.now) ++ output_causes kind.now (map (λ s. s.now) ins.now)) ≡ None }
@@ -110,11 +102,7 @@ fn operator_columns(
 }
 
 /// The expressions of an operator, in the written order.
-fn operator_exprs(
-    alloc: Global,
-    kind: &OpKind,
-    ins: &[&Schema],
-) -> Result<Items<Typed>, NoMemory>
+fn operator_exprs(alloc: Global, kind: &OpKind, ins: &[&Schema]) -> Result<Items<Typed>, NoMemory>
     requires known { IsKnown kind.now }
     requires fed { IsFed kind.now (length ins.now) }
     requires sound { first_cause (option_causes kind.now (map (λ s. s.now) ins.now) ++ output_causes kind.now (map (λ s. s.now) ins.now)) ≡ None }
@@ -130,11 +118,7 @@ fn operator_exprs(
 
 /// What the names and the expressions of an operator's options stand for, where its inputs have
 /// these schemas.
-pub fn operator_parts(
-    alloc: Global,
-    kind: &OpKind,
-    ins: &[&Schema],
-) -> Result<OpParts, NoMemory>
+pub fn operator_parts(alloc: Global, kind: &OpKind, ins: &[&Schema]) -> Result<OpParts, NoMemory>
     requires known { IsKnown kind.now }
     requires fed { IsFed kind.now (length ins.now) }
     requires sound { first_cause (option_causes kind.now (map (λ s. s.now) ins.now) ++ output_causes kind.now (map (λ s. s.now) ins.now)) ≡ None }
