@@ -1,4 +1,3 @@
 pub mod Causes
 pub mod Failing
 pub mod FileMap
-pub mod MemFiles

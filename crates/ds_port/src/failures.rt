@@ -1,6 +1,6 @@
-ghost use Rattle.std.specs.Prelude.{◌≡◌, ◌≢◌, ◌+◌, ◌-◌, ◌^◌, ℕ, min, List, [], IsTrue, IfOk};
+ghost use Rattle.std.specs.Prelude.{◌≡◌, ◌↔◌, ℕ, List, [], false, IsTrue, IfOk};
 ghost use Rattle.ds_port.specs.Causes.{HasCause};
-ghost use Rattle.ds_port.specs.Failing.{is_listed};
+ghost use Rattle.ds_port.specs.Failing.{IsCounted, NextFails, StartsAnew};
 
 use ds_value::{Items, NoMemory};
 use std::alloc::Global;
@@ -18,9 +18,9 @@ pub trait Failures: Drop {
 
     /// Whether the next call fails.
     fn fails(&mut self) -> bool
-        ensures listed { result ≡ is_listed (numbers self.old) (calls self.old) }
-        ensures numbers { numbers self.new ≡ numbers self.old }
-        ensures calls { numbers self.old ≢ [] → calls self.new ≡ min (calls self.old + 1) (2 ^ 64 - 1) }
+        ensures listed { IsTrue result ↔ NextFails numbers calls self.old }
+        ensures counted { IsCounted numbers calls self.old self.new }
+        ensures kept { result ≡ false → count self.new ≡ count self.old }
         ensures cause { HasCause (count self.old) (count self.new) (IsTrue result) };
 
     fn faults(&self) -> u64
@@ -30,8 +30,7 @@ pub trait Failures: Drop {
     fn renewed(&self, alloc: Global) -> Result<Self, NoMemory>
     where
         Self: Sized,
-        ensures numbers { IfOk result (λ fresh. numbers fresh ≡ numbers self.now) }
-        ensures calls { IfOk result (λ fresh. calls fresh ≡ 0) }
+        ensures anew { IfOk result (λ fresh. StartsAnew numbers calls self.now fresh) }
         ensures faults { IfOk result (λ fresh. count fresh ≡ 0) };
 }
 

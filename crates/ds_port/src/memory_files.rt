@@ -1,32 +1,36 @@
-ghost use Rattle.std.specs.Prelude.{◌≡◌, ◌↔◌, ◌+◌, ℕ, [], true, IsTrue, IfSome, IfNone, OnOk, OnErr, Some, None};
+ghost use Rattle.std.specs.Prelude.{◌≡◌, ◌≢◌, ◌↔◌, ◌⊎◌, ◌<◌, ◌≤◌, ◌+◌, ◌-◌, ℕ, is_ok, if◌then◌else◌, [], true, false, vec_capacity, vec_len, IsTrue, IsErr, IsSome, IfOk, IfSome, IfNone, OnOk, OnErr, Some, None, Err};
 ghost use Rattle.ds_port.specs.FileMap.{file_at, with_file, no_files, files_of_list};
 
-use crate::{DeviceFault, Failures, Files, FindFault, MakeFault, MemSink, MemSource};
+use crate::{DeviceFault, Failures, Files, FindFault, MakeFault, MemSink, MemSource, Sink, Source};
 use ds_value::{Bytes, Name, NoMemory};
 use std::alloc::Global;
 
 /// Files in memory, the newest first. `failures` are those of its own calls, and `inner` those of
-/// each input and output, which counts its own.
+/// each input and output, which counts its own. Each output that is out has its entry in `files`
+/// already, as room that no other call takes.
 #[derive(Drop)]
 pub struct MemFiles<P: Failures> {
     files: Vec<(Name, Bytes)>,
-    opened: usize,
+    out: usize,
     failures: P,
     inner: P,
     returned: u64,
+    ghost room: { vec_len files + out ≤ vec_capacity files },
 }
 
 impl<P: Failures> MemFiles<P> {
     ghost use Rattle.ds_port.specs.Causes.{HasCause};
-    ghost use Rattle.ds_port.specs.MemFiles.{files_of, faults_of};
 
     pub fn new(alloc: Global, failures: P, inner: P) -> MemFiles<P>
-        ensures holds { files_of result ≡ no_files }
-        ensures faults { faults_of P.count result ≡ P.count failures }
+        ensures holds { files_of_list result.files.items ≡ no_files }
+        ensures faults { P.count result.failures + result.returned ≡ P.count failures }
+        ensures failures { result.failures ≡ failures }
+        ensures inner { result.inner ≡ inner }
+        ensures out { result.out ≡ 0 }
     {
         MemFiles {
             files: Vec::new(alloc),
-            opened: 0,
+            out: 0,
             failures,
             inner,
             returned: 0,
@@ -35,25 +39,35 @@ impl<P: Failures> MemFiles<P> {
 
     /// The bytes of a file.
     pub fn look_up(&self, name: &[u8]) -> Option<&[u8]>
-        ensures found { IfSome result (λ bytes. file_at (files_of self.now) name.now ≡ Some bytes.now) }
-        ensures absent { IfNone result (file_at (files_of self.now) name.now ≡ None) }
+        ensures found { IfSome result (λ bytes. file_at (files_of_list self.now.files.items) name.now ≡ Some bytes.now) }
+        ensures absent { IfNone result (file_at (files_of_list self.now.files.items) name.now ≡ None) }
     {
         newest(&self.files, name)
     }
 
     /// Puts a file there.
     pub fn put(&mut self, name: Name, bytes: Bytes) -> Result<(), NoMemory>
-        ensures ok { OnOk result (files_of self.new ≡ with_file (files_of self.old) name bytes) }
-        ensures err { OnErr result (files_of self.new ≡ files_of self.old) }
-        ensures faults { faults_of P.count self.new ≡ faults_of P.count self.old }
+        ensures ok { OnOk result (files_of_list self.new.files.items ≡ with_file (files_of_list self.old.files.items) name bytes) }
+        ensures err { OnErr result (files_of_list self.new.files.items ≡ files_of_list self.old.files.items) }
+        ensures faults { P.count self.new.failures + self.new.returned ≡ P.count self.old.failures + self.old.returned }
+        ensures uncounted { self.new.failures ≡ self.old.failures }
+        ensures inner { self.new.inner ≡ self.old.inner }
+        ensures out { self.new.out ≡ self.old.out }
     {
+        let room = self.out.checked_add(1).ok_or(NoMemory)?;
+        self.files.reserve(room)?;
         self.files.insert(0, (name, bytes))?;
         Ok(())
     }
 
     fn take_back(&mut self, failed: bool)
-        ensures same { files_of self.new ≡ files_of self.old }
-        ensures cause { HasCause (faults_of P.count self.old) (faults_of P.count self.new) (IsTrue failed) }
+        ensures same { files_of_list self.new.files.items ≡ files_of_list self.old.files.items }
+        ensures cause { HasCause (P.count self.old.failures + self.old.returned) (P.count self.new.failures + self.new.returned) (IsTrue failed) }
+        ensures kept { failed ≡ false → self.new.returned ≡ self.old.returned }
+        ensures uncounted { self.new.failures ≡ self.old.failures }
+        ensures inner { self.new.inner ≡ self.old.inner }
+        ensures files { self.new.files ≡ self.old.files }
+        ensures out { self.new.out ≡ self.old.out }
     {
         if failed {
             self.returned = self.returned.saturating_add(1);
@@ -80,7 +94,8 @@ fn newest<'a>(files: &'a [(Name, Bytes)], name: &[u8]) -> Option<&'a [u8]>
 }
 
 impl<P: Failures + Send> Files for MemFiles<P> {
-    ghost use Rattle.ds_port.specs.MemFiles.{files_of, faults_of};
+    ghost use Rattle.ds_port.specs.Causes.{HasCause};
+    ghost use Rattle.ds_port.specs.Failing.{IsCounted, NextFails, StartsAnew};
 
     type Input = MemSource<P>;
 
@@ -88,15 +103,27 @@ impl<P: Failures + Send> Files for MemFiles<P> {
 
     ghost tells = { true };
 
-    ghost holds = { files_of };
+    ghost holds = { λ f. files_of_list f.files.items };
 
-    ghost faults = { faults_of P.count };
+    ghost faults = { λ f. P.count f.failures + f.returned };
 
     ghost inputs_tell = { λ t. t };
 
     ghost outputs_tell = { λ t. t };
 
-    fn find(&mut self, alloc: Global, name: &Name) -> Result<MemSource<P>, FindFault> {
+    fn find(&mut self, alloc: Global, name: &Name) -> Result<MemSource<P>, FindFault>
+        ensures listed { (result ≡ Err FindFault.Device) ↔ NextFails P.numbers P.calls self.old.failures }
+        ensures counted { IsCounted P.numbers P.calls self.old.failures self.new.failures }
+        ensures inner { self.new.inner ≡ self.old.inner }
+        ensures out { self.new.out ≡ self.old.out }
+        ensures anew { IfOk result (λ input. StartsAnew P.numbers P.calls self.old.inner input.failures) }
+        ensures found { IfOk result (λ input. file_at (files_of_list self.old.files.items) name.now ≡ Some (⟦<MemSource<P> as Source>⟧.rest input)) }
+        ensures fresh { IfOk result (λ input. ⟦<MemSource<P> as Source>⟧.faults input ≡ 0) }
+        ensures absent { result ≡ Err FindFault.Absent → file_at (files_of_list self.old.files.items) name.now ≡ None }
+        ensures same { files_of_list self.new.files.items ≡ files_of_list self.old.files.items }
+        ensures cause { HasCause (P.count self.old.failures + self.old.returned) (P.count self.new.failures + self.new.returned) (result ≡ Err FindFault.Device) }
+        ensures kept { result ≢ Err FindFault.Device → P.count self.new.failures + self.new.returned ≡ P.count self.old.failures + self.old.returned }
+    {
         if self.failures.fails() {
             return Err(FindFault::Device);
         }
@@ -112,28 +139,56 @@ impl<P: Failures + Send> Files for MemFiles<P> {
         }
     }
 
-    fn create(&mut self, alloc: Global, name: &Name) -> Result<MemSink<P>, MakeFault> {
+    fn create(&mut self, alloc: Global, name: &Name) -> Result<MemSink<P>, MakeFault>
+        ensures listed { (result ≡ Err MakeFault.Device) ↔ NextFails P.numbers P.calls self.old.failures }
+        ensures counted { IsCounted P.numbers P.calls self.old.failures self.new.failures }
+        ensures inner { self.new.inner ≡ self.old.inner }
+        ensures anew { IfOk result (λ output. StartsAnew P.numbers P.calls self.old.inner output.failures) }
+        ensures out { self.new.out ≡ (if is_ok result then self.old.out + 1 else self.old.out) }
+        ensures empty { IfOk result (λ output. ⟦<MemSink<P> as Sink>⟧.held output ≡ []) }
+        ensures fresh { IfOk result (λ output. ⟦<MemSink<P> as Sink>⟧.faults output ≡ 0) }
+        ensures name { IfOk result (λ output. ⟦<MemSink<P> as Sink>⟧.name output ≡ Some name.now) }
+        ensures same { files_of_list self.new.files.items ≡ files_of_list self.old.files.items }
+        ensures cause { HasCause (P.count self.old.failures + self.old.returned) (P.count self.new.failures + self.new.returned) (result ≡ Err MakeFault.Device) }
+        ensures kept { result ≢ Err MakeFault.Device → P.count self.new.failures + self.new.returned ≡ P.count self.old.failures + self.old.returned }
+    {
         if self.failures.fails() {
             return Err(MakeFault::Device);
         }
-        self.opened = self.opened.saturating_add(1);
+        let Some(out) = self.out.checked_add(1) else {
+            return Err(MakeFault::Memory);
+        };
         let (Ok(()), Ok(name), Ok(failures)) = (
-            self.files.reserve(self.opened),
+            self.files.reserve(out),
             name.copied(),
             self.inner.renewed(alloc),
         ) else {
             return Err(MakeFault::Memory);
         };
+        self.out = out;
         Ok(MemSink::new(alloc, Some(name), failures))
     }
 
-    fn commit(&mut self, output: MemSink<P>) -> Result<(), DeviceFault> {
+    fn commit(&mut self, output: MemSink<P>) -> Result<(), DeviceFault>
+        requires { IsSome (⟦<MemSink<P> as Sink>⟧.name output) }
+        ensures listed { NextFails P.numbers P.calls self.old.failures → IsErr result }
+        ensures full { OnErr result (NextFails P.numbers P.calls self.old.failures ⊎ (self.old.out ≡ 0)) }
+        ensures counted { IsCounted P.numbers P.calls self.old.failures self.new.failures }
+        ensures inner { self.new.inner ≡ self.old.inner }
+        ensures out { self.new.out ≡ self.old.out - 1 }
+        ensures ok { OnOk result (IfSome (⟦<MemSink<P> as Sink>⟧.name output) (λ name. files_of_list self.new.files.items ≡ with_file (files_of_list self.old.files.items) name (⟦<MemSink<P> as Sink>⟧.held output))) }
+        ensures err { OnErr result (files_of_list self.new.files.items ≡ files_of_list self.old.files.items) }
+        ensures cause { HasCause (P.count self.old.failures + self.old.returned) (P.count self.new.failures + self.new.returned) (IsErr result) }
+        ensures returned { HasCause (P.count self.old.failures + self.old.returned) (P.count self.new.failures + self.new.returned) (0 < ⟦<MemSink<P> as Sink>⟧.faults output) }
+        ensures kept { OnOk result (⟦<MemSink<P> as Sink>⟧.faults output ≡ 0 → P.count self.new.failures + self.new.returned ≡ P.count self.old.failures + self.old.returned) }
+    {
         self.take_back(output.has_failed());
+        self.out = self.out.saturating_sub(1);
         if self.failures.fails() {
             return Err(DeviceFault);
         }
         let (name, bytes) = output.into_file();
-        // There is room: `create` made it.
+        // There is room where `create` made the output.
         match self.files.insert(0, (name, bytes)) {
             Ok(()) => Ok(()),
             Err(_) => {
@@ -143,11 +198,26 @@ impl<P: Failures + Send> Files for MemFiles<P> {
         }
     }
 
-    fn discard(&mut self, output: MemSink<P>) {
+    fn discard(&mut self, output: MemSink<P>)
+        ensures uncounted { self.new.failures ≡ self.old.failures }
+        ensures inner { self.new.inner ≡ self.old.inner }
+        ensures out { self.new.out ≡ self.old.out - 1 }
+        ensures same { files_of_list self.new.files.items ≡ files_of_list self.old.files.items }
+        ensures returned { HasCause (P.count self.old.failures + self.old.returned) (P.count self.new.failures + self.new.returned) (0 < ⟦<MemSink<P> as Sink>⟧.faults output) }
+        ensures kept { ⟦<MemSink<P> as Sink>⟧.faults output ≡ 0 → P.count self.new.failures + self.new.returned ≡ P.count self.old.failures + self.old.returned }
+    {
         self.take_back(output.has_failed());
+        self.out = self.out.saturating_sub(1);
     }
 
-    fn settle(&mut self, input: MemSource<P>) {
+    fn settle(&mut self, input: MemSource<P>)
+        ensures uncounted { self.new.failures ≡ self.old.failures }
+        ensures inner { self.new.inner ≡ self.old.inner }
+        ensures out { self.new.out ≡ self.old.out }
+        ensures same { files_of_list self.new.files.items ≡ files_of_list self.old.files.items }
+        ensures returned { HasCause (P.count self.old.failures + self.old.returned) (P.count self.new.failures + self.new.returned) (0 < ⟦<MemSource<P> as Source>⟧.faults input) }
+        ensures kept { ⟦<MemSource<P> as Source>⟧.faults input ≡ 0 → P.count self.new.failures + self.new.returned ≡ P.count self.old.failures + self.old.returned }
+    {
         self.take_back(input.has_failed());
     }
 }
@@ -155,8 +225,33 @@ impl<P: Failures + Send> Files for MemFiles<P> {
 #[cfg(test)]
 mod tests {
     use super::*;
-    use crate::{FailsAt, Sink, Source};
+    use crate::{FailsAt, NeverFails};
     use std::test::Fail;
+
+    /// The lists alone prove which call fails: nothing is asked of an answer here.
+    #[test]
+    fn lists_tell_each_answer(rt: HostRuntime) -> Result<(), Fail> {
+        let alloc = rt.alloc();
+        let name = Name::from_bytes(alloc, b"a.txt")?.ok_or("no name")?;
+        let mut buf = [0u8; 8];
+        let mut source = MemSource::new(b"12".to_vec(alloc)?, FailsAt::new(vec![in alloc; 1]?));
+        source.read(&mut buf).unwrap();
+        source.read(&mut buf).unwrap_err();
+        source.read(&mut buf).unwrap();
+        MemSource::new(Vec::new(alloc), NeverFails)
+            .read(&mut buf)
+            .unwrap();
+        MemSink::new(alloc, None, NeverFails).finish().unwrap();
+        let (own, inner) = (vec![in alloc; 3]?, vec![in alloc; 0]?);
+        let mut files = MemFiles::new(alloc, FailsAt::new(own), FailsAt::new(inner));
+        let mut first = files.create(alloc, &name)?;
+        let second = files.create(alloc, &name)?;
+        first.finish().unwrap_err();
+        first.finish().unwrap();
+        files.commit(first).unwrap();
+        files.commit(second).unwrap_err();
+        Ok(())
+    }
 
     #[test]
     fn each_call_fails_at_its_number(rt: HostRuntime) -> Result<(), Fail> {

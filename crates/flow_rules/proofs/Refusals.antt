@@ -12,7 +12,7 @@ use Rattle.flow_graph.specs.declared.state.State.{State}
 use Rattle.flow_rules.specs.declared.need.Need.{Need}
 use Rattle.flow_rules.specs.Needs.{missed, route_missed}
 use Rattle.flow_derive.specs.LinkStates.{AreStates, choice_at, output_at, state_at}
-use Rattle.flow_rules.specs.Verdicts.{IsAccepted, IsRefused, NoneMisses, first_of, first_with, link_misses, with_state}
+use Rattle.flow_rules.specs.Verdicts.{IsAccepted, IsRefused, NoneMisses, first_of, first_with, link_misses, with_state, infer_regains}
 
 first_state_of : (s : State) (parts : List Need) → first_of (with_state s parts) ≡ first_with (first_of parts) s
 first_state_of s [] = refl
@@ -36,24 +36,24 @@ something (y ∷ xs) x e = (xs, let f : y ≡ x = cc in ap (λ z. z ∷ xs) f)
 
 -- what a link's route misses, and what its consumer does
 abbrev pub route_part : Chart → List State → ℕ → Option (Need × State)
-route_part c states l = first_of (with_state (output_at false c states l) (route_missed (choice_at c l).method (output_at false c states l)))
+route_part c states l = first_of (with_state (output_at infer_regains c states l) (route_missed (choice_at c l).method (output_at infer_regains c states l)))
 
 abbrev pub need_part : Chart → List State → ℕ → Option (Need × State)
 need_part c states l = first_of (with_state (state_at states l) (missed (form_at c (link_at c l).to) (map (state_at states) (links_into c (link_at c l).to)) (link_at c l).port))
 
-pub of_route : (c : Chart) (states : List State) (l : ℕ) (x : Need × State) → route_part c states l ≡ Some x → first_of (link_misses false c states l) ≡ Some x
-of_route c states l x e = first_left (with_state (output_at false c states l) (route_missed (choice_at c l).method (output_at false c states l))) (with_state (state_at states l) (missed (form_at c (link_at c l).to) (map (state_at states) (links_into c (link_at c l).to)) (link_at c l).port)) x e
+pub of_route : (c : Chart) (states : List State) (l : ℕ) (x : Need × State) → route_part c states l ≡ Some x → first_of (link_misses infer_regains c states l) ≡ Some x
+of_route c states l x e = first_left (with_state (output_at infer_regains c states l) (route_missed (choice_at c l).method (output_at infer_regains c states l))) (with_state (state_at states l) (missed (form_at c (link_at c l).to) (map (state_at states) (links_into c (link_at c l).to)) (link_at c l).port)) x e
 
-pub of_need : (c : Chart) (states : List State) (l : ℕ) (found : Option (Need × State)) → route_part c states l ≡ None → found ≡ need_part c states l → found ≡ first_of (link_misses false c states l)
-of_need c states l found e f = f ∙ sym (first_right (with_state (output_at false c states l) (route_missed (choice_at c l).method (output_at false c states l))) (with_state (state_at states l) (missed (form_at c (link_at c l).to) (map (state_at states) (links_into c (link_at c l).to)) (link_at c l).port)) e)
+pub of_need : (c : Chart) (states : List State) (l : ℕ) (found : Option (Need × State)) → route_part c states l ≡ None → found ≡ need_part c states l → found ≡ first_of (link_misses infer_regains c states l)
+of_need c states l found e f = f ∙ sym (first_right (with_state (output_at infer_regains c states l) (route_missed (choice_at c l).method (output_at infer_regains c states l))) (with_state (state_at states l) (missed (form_at c (link_at c l).to) (map (state_at states) (links_into c (link_at c l).to)) (link_at c l).port)) e)
 
-pub route_part_is : (c : Chart) (states : List State) (l : ℕ) (output : State) (need : Option Need) (found : Option (Need × State)) → output ≡ output_at false c states l → need ≡ first_of (route_missed (choice_at c l).method output) → found ≡ first_with need output → found ≡ route_part c states l
+pub route_part_is : (c : Chart) (states : List State) (l : ℕ) (output : State) (need : Option Need) (found : Option (Need × State)) → output ≡ output_at infer_regains c states l → need ≡ first_of (route_missed (choice_at c l).method output) → found ≡ first_with need output → found ≡ route_part c states l
 route_part_is c states l output need found a b d =
-    d ∙ ap (λ n. first_with n output) b ∙ ap (λ o. first_with (first_of (route_missed (choice_at c l).method o)) o) a ∙ sym (first_state_of (output_at false c states l) (route_missed (choice_at c l).method (output_at false c states l)))
+    d ∙ ap (λ n. first_with n output) b ∙ ap (λ o. first_with (first_of (route_missed (choice_at c l).method o)) o) a ∙ sym (first_state_of (output_at infer_regains c states l) (route_missed (choice_at c l).method (output_at infer_regains c states l)))
 
 -- no link below n misses anything
 pub record NoneBelow (c : Chart) (n : ℕ) (states : List State) : Type 0 where
-  pub none : (l : ℕ) → l < n → link_misses false c states l ≡ []
+  pub none : (l : ℕ) → l < n → link_misses infer_regains c states l ≡ []
 
 pub none_first : (c : Chart) (states : List State) → NoneBelow c 0 states
 none_first c states = record { none = λ l m. absurd (omega arith) }
@@ -65,22 +65,22 @@ split l n m = go (l == n) refl
     go true e = inr (grind (arith, nat_tests))
     go false e = inl (grind (arith, nat_tests))
 
-pub none_more : (c : Chart) (n : ℕ) (states : List State) → NoneBelow c n states → None ≡ first_of (link_misses false c states n) → NoneBelow c (n + 1) states
+pub none_more : (c : Chart) (n : ℕ) (states : List State) → NoneBelow c n states → None ≡ first_of (link_misses infer_regains c states n) → NoneBelow c (n + 1) states
 none_more c n states h e = record { none = λ l m. go l (split l n m) }
   where
-    go : (l : ℕ) → ((l < n) ⊎ (l ≡ n)) → link_misses false c states l ≡ []
+    go : (l : ℕ) → ((l < n) ⊎ (l ≡ n)) → link_misses infer_regains c states l ≡ []
     go l (inl a) = h.none l a
-    go l (inr a) = subst (λ k. link_misses false c states k ≡ []) (sym a) (nothing (link_misses false c states n) (sym e))
+    go l (inr a) = subst (λ k. link_misses infer_regains c states k ≡ []) (sym a) (nothing (link_misses infer_regains c states n) (sym e))
 
-pub refused : (c : Chart) (n : ℕ) (need : Need) (have : State) (states : List State) → AreStates false c states → n < length c.flow.links → NoneBelow c n states → Some (need, have) ≡ first_of (link_misses false c states n) → IsRefused false c n need have
+pub refused : (c : Chart) (n : ℕ) (need : Need) (have : State) (states : List State) → AreStates infer_regains c states → n < length c.flow.links → NoneBelow c n states → Some (need, have) ≡ first_of (link_misses infer_regains c states n) → IsRefused infer_regains c n need have
 refused c n need have states a l h e =
-    let s = something (link_misses false c states n) (need, have) (sym e) in
+    let s = something (link_misses infer_regains c states n) (need, have) (sym e) in
     record { states = states; states_are = a; in_range = l; before = h.none; rest = s.0; first = s.1 }
 
-pub none_misses : (c : Chart) (n : ℕ) (states : List State) → NoneBelow c n states → length c.flow.links ≤ n → NoneMisses false c states
+pub none_misses : (c : Chart) (n : ℕ) (states : List State) → NoneBelow c n states → length c.flow.links ≤ n → NoneMisses infer_regains c states
 none_misses c n states h e l m = h.none l (omega arith)
 
-pub accepted : (c : Chart) (states : List State) (choices : List Choice) → AreStates false c states → choices ≡ map (choice_at c) (all_links c) → NoneMisses false c states → IsAccepted false c states choices
+pub accepted : (c : Chart) (states : List State) (choices : List Choice) → AreStates infer_regains c states → choices ≡ map (choice_at c) (all_links c) → NoneMisses infer_regains c states → IsAccepted infer_regains c states choices
 accepted c states choices a b d = record { states_are = a; choices_are = b; none = d }
 
 pub need_part_is : (c : Chart) (states : List State) (l : ℕ) (spec : LinkSpec) (o : Outline) (inputs : List State) (need : Option Need) (s : State) (found : Option (Need × State)) → spec ≡ link_at c l → outline_form o (passes_at c spec.to) ≡ form_at c spec.to →

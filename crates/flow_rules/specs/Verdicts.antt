@@ -69,9 +69,17 @@ pub record IsRefused (regains : Bool) (c : Chart) (link : ℕ) (need : Need) (ha
   pub rest : List (Need × State)
   pub first : link_misses regains c states link ≡ (need, have) ∷ rest
 
-abbrev pub IsVerdict : Bool → Chart → Verdict → Type 0
-IsVerdict regains c (Accepted states choices) = IsAccepted regains c states choices
-IsVerdict regains c (Refused link need have) = IsRefused regains c link need have
+abbrev pub IsVerdictBy : Bool → Chart → Verdict → Type 0
+IsVerdictBy regains c (Accepted states choices) = IsAccepted regains c states choices
+IsVerdictBy regains c (Refused link need have) = IsRefused regains c link need have
+
+-- whether states are refined with regain: not yet
+abbrev pub infer_regains : Bool
+infer_regains = false
+
+-- the verdict on a flow
+abbrev pub IsVerdict : Chart → Verdict → Type 0
+IsVerdict c v = IsVerdictBy infer_regains c v
 
 -- the flow as operators with all that decides what they mean, in its order
 abbrev pub out_at : Chart → ℕ → Out
@@ -94,8 +102,8 @@ pub record AcceptedFlow (regains : Bool) (c : Chart) (states : List State) (ops 
   pub accepted : AllByRecursion (Meets regains (width_at c) (state_at states)) (nodes_of c ops)
 
 abbrev pub AcceptedIsSound : Type 0
-AcceptedIsSound = (regains : Bool) (c : Chart) (states : List State) (choices : List Choice) (ops : ℕ → Op) → IsVerdict regains c (Accepted states choices) → ((o : ℕ) → IsIn o c.order → PortsInOrder c o) → FormsAre c ops → AcceptedFlow regains c states ops
+AcceptedIsSound = (regains : Bool) (c : Chart) (states : List State) (choices : List Choice) (ops : ℕ → Op) → IsVerdictBy regains c (Accepted states choices) → ((o : ℕ) → IsIn o c.order → PortsInOrder c o) → FormsAre c ops → AcceptedFlow regains c states ops
 
 -- A flow has one verdict.
 abbrev pub OneVerdict : Type 0
-OneVerdict = (regains : Bool) (c : Chart) (v w : Verdict) → ForwardOrder c [] c.order → CoversLinks c → IsVerdict regains c v → IsVerdict regains c w → v ≡ w
+OneVerdict = (regains : Bool) (c : Chart) (v w : Verdict) → ForwardOrder c [] c.order → CoversLinks c → IsVerdictBy regains c v → IsVerdictBy regains c w → v ≡ w

@@ -1,8 +1,8 @@
-ghost use Rattle.std.specs.Prelude.{◌≡◌, ◌<◌, length, map, IfOk, MatchOption, false};
+ghost use Rattle.std.specs.Prelude.{◌≡◌, ◌<◌, length, map, IfOk, MatchOption};
 ghost use Rattle.flow_graph.specs.Charts.{all_links, form_at, link_at, links_into};
 ghost use Rattle.flow_rules.specs.Needs.{missed, route_missed};
 ghost use Rattle.flow_derive.specs.LinkStates.{AreStates, choice_at, state_at, output_at};
-ghost use Rattle.flow_rules.specs.Verdicts.{IsRouted, IsVerdict, NoneMisses, first_of, first_with, with_state, link_misses};
+ghost use Rattle.flow_rules.specs.Verdicts.{IsRouted, IsVerdict, NoneMisses, first_of, first_with, with_state, link_misses, infer_regains};
 
 use crate::needs::{missed, route_missed};
 use crate::{Need, Verdict};
@@ -22,7 +22,7 @@ fn missed_before(
     link: u32,
 ) -> Result<Option<(Need, State)>, NoMemory>
     requires { link < length shaped.now.flow.links }
-    ensures { IfOk result (λ found. found ≡ first_of (with_state (output_at false shaped.now states.now link) (route_missed (choice_at shaped.now link).method (output_at false shaped.now states.now link)))) }
+    ensures { IfOk result (λ found. found ≡ first_of (with_state (output_at infer_regains shaped.now states.now link) (route_missed (choice_at shaped.now link).method (output_at infer_regains shaped.now states.now link)))) }
 {
     let ins = links_into(alloc, shaped, link_at(shaped, link).from)?;
     let inputs = states_at(alloc, states, ins.as_slice())?;
@@ -70,7 +70,7 @@ fn link_missed(
     link: u32,
 ) -> Result<Option<(Need, State)>, NoMemory>
     requires { link < length shaped.now.flow.links }
-    ensures { IfOk result (λ found. found ≡ first_of (link_misses false shaped.now states.now link)) }
+    ensures { IfOk result (λ found. found ≡ first_of (link_misses infer_regains shaped.now states.now link)) }
 {
     match missed_before(alloc, shaped, states, link)? {
         Some(found) => Ok(Some(found)),
@@ -88,8 +88,8 @@ fn first_refusal(
     shaped: &Shaped,
     states: &[State],
 ) -> Result<Option<Verdict>, NoMemory>
-    requires { AreStates false shaped.now states.now }
-    ensures { IfOk result (λ found. MatchOption found (NoneMisses false shaped.now states.now) (λ v. IsVerdict false shaped.now v)) }
+    requires { AreStates infer_regains shaped.now states.now }
+    ensures { IfOk result (λ found. MatchOption found (NoneMisses infer_regains shaped.now states.now) (λ v. IsVerdict shaped.now v)) }
 {
     for link in 0..link_count(shaped) {
         let found = link_missed(alloc, shaped, states, link)?;
@@ -118,7 +118,7 @@ pub fn choices(shaped: &Shaped) -> Result<Vec<Choice>, NoMemory>
 #[tactic(auto, using(crate::proofs::Refusals::accepted))]
 pub fn infer(shaped: &Shaped) -> Result<Verdict, NoMemory>
     requires { IsRouted shaped.now }
-    ensures { IfOk result (λ verdict. IsVerdict false shaped.now verdict) }
+    ensures { IfOk result (λ verdict. IsVerdict shaped.now verdict) }
 {
     let alloc = shaped.flow().links.allocator();
     let states = all_states(alloc, shaped)?;

@@ -30,7 +30,7 @@ use Rattle.op_shape.proofs.Putting.{width_is}
 use Rattle.op_shape.specs.Options.{made_or_rejected, operator_parts, option_causes, output_causes, output_fields}
 use Rattle.flow_shape.specs.Refusals.{IsShapeOf, fields_at, input_cause, inputs_at, kind_at, parts_at}
 use Rattle.flow_sound.specs.Fitting.{IsByRow}
-use Rattle.flow_sound.specs.Kinds.{first_into}
+use Rattle.flow_rules.specs.Exports.{input_of}
 use Rattle.flow_sound.proofs.Members.{below_range}
 use Rattle.flow_sound.proofs.Order.{enters_it}
 use Rattle.flow_sound.proofs.SetRows.{wider}
@@ -125,14 +125,14 @@ one_port (kind.Modify keep drop rename) parts stored width n h p = p
 one_port (kind.Switch on cases reject) parts stored width n h p = p
 one_port k parts stored width n h p = absurd h
 
-pub into_by_row : (c : Chart) (o : ℕ) → IsShape c → o < length c.flow.ops → IsByRow (op_at c o).kind → links_into c o ≡ first_into c o ∷ []
+pub into_by_row : (c : Chart) (o : ℕ) → IsShape c → o < length c.flow.ops → IsByRow (op_at c o).kind → links_into c o ≡ input_of c o ∷ []
 into_by_row c o s b h = one_link (links_into c o) (one_port (op_at c o).kind (parts_of c o) (get_or c.stored o None) (first_width c o) (length (links_into c o)) h (s.ops o b).inputs)
 
 pub one_input : (c : Chart) (o : ℕ) → IsShape c → o < length c.flow.ops → IsByRow (op_at c o).kind → inputs_at c o ≡ first_fields c o ∷ []
 one_input c o s b h = ap (map (fields_at c)) (into_by_row c o s b h)
 
-pub link_there : (c : Chart) (o : ℕ) → links_into c o ≡ first_into c o ∷ [] → first_into c o < length c.flow.links
-link_there c o e = (enters_it c o (first_into c o) (subst (IsIn (first_into c o)) (sym e) (inl refl))).1
+pub link_there : (c : Chart) (o : ℕ) → links_into c o ≡ input_of c o ∷ [] → input_of c o < length c.flow.links
+link_there c o e = (enters_it c o (input_of c o) (subst (IsIn (input_of c o)) (sym e) (inl refl))).1
 
 kept_lie : (c : Chart) (o : ℕ) (k : OpKind) → ColumnsLie c o k → KeptLie (first_fields c o) k (parts_of c o)
 kept_lie c o (kind.Modify keep drop rename) h = h
@@ -140,7 +140,7 @@ kept_lie c o k h = tt
 
 pub works_at : (flow : Flow) (dict : List Stored) (c : Chart) → IsShape c → IsShapeOf flow dict c → (o : ℕ) → o < length c.flow.ops → IsByRow (op_at c o).kind → Works (op_at c o).kind (first_fields c o) (parts_of c o)
 works_at flow dict c s f o b h = record {
-  schema = (s.links (first_into c o) (link_there c o (into_by_row c o s b h))).schema;
+  schema = (s.links (input_of c o) (link_there c o (into_by_row c o s b h))).schema;
   parts_are = ap (λ ps. get_or ps o no_parts) f.parts ∙ get_or-map-range_with_len (parts_at c) 0 (length c.flow.ops) o o no_parts b (omega arith) ∙ ap (operator_parts (kind_at c o)) (one_input c o s b h);
   exprs = (s.ops o b).exprs;
   sound = subst (λ ins. first_cause (option_causes (kind_at c o) ins) ≡ None) (one_input c o s b h)

@@ -18,6 +18,7 @@ use Rattle.flow_graph.specs.Forms.{form}
 use Rattle.flow_graph.specs.Operators.{Op, by_row, faults}
 use Rattle.flow_graph.specs.RowRules.{row_rule}
 use Rattle.flow_graph.specs.Runs.{InsertedFrom, Lists, Node, Out}
+use Rattle.flow_rules.specs.Exports.{IsExport, input_of}
 use Rattle.flow_rules.specs.Needs.{missed}
 use Rattle.flow_rules.specs.Soundness.{Accepted as MissesNothing, Keeps, Sound}
 use Rattle.flow_derive.specs.LinkStates.{state_at}
@@ -29,7 +30,7 @@ use Rattle.flow_rules.proofs.FlowAll.{faults_all, flow_all}
 use Rattle.flow_rules.proofs.LawProofs.{sinks_meet}
 use Rattle.flow_rules.proofs.VerdictLaws.{accepted_derives, accepted_inserts, accepted_meets}
 use Rattle.flow_sound.specs.Fitting.{IsByRow}
-use Rattle.flow_sound.specs.Kinds.{IsExport, IsOfKind, first_into}
+use Rattle.flow_sound.specs.Kinds.{IsOfKind}
 use Rattle.flow_sound.specs.Promise.{AcceptedRun, AcceptedRunsKeep, ShapedFlow, sort_at}
 use Rattle.flow_sound.proofs.ByRow.{into_by_row, link_there, one_link}
 use Rattle.flow_sound.proofs.Fitting.{forms_fit, operators_fit}
@@ -62,10 +63,10 @@ one_port : (k : OpKind) (parts : OpParts) (stored : Option Stored) (width n : �
 one_port (kind.Export file delim fixed) parts stored width n e h = h
 one_port k parts stored width n e h = absurd e
 
-pub into_export : (c : Chart) (o : ℕ) → IsShape c → o < length c.flow.ops → IsExport (op_at c o).kind → links_into c o ≡ first_into c o ∷ []
+pub into_export : (c : Chart) (o : ℕ) → IsShape c → o < length c.flow.ops → IsExport (op_at c o).kind → links_into c o ≡ input_of c o ∷ []
 into_export c o s b e = one_link (links_into c o) (one_port (op_at c o).kind (parts_of c o) (get_or c.stored o None) (first_width c o) (length (links_into c o)) e (s.ops o b).inputs)
 
-pub export_link : (c : Chart) (o : ℕ) → IsShape c → o < length c.flow.ops → IsExport (op_at c o).kind → first_into c o < length c.flow.links
+pub export_link : (c : Chart) (o : ℕ) → IsShape c → o < length c.flow.ops → IsExport (op_at c o).kind → input_of c o < length c.flow.links
 export_link c o s b e = link_there c o (into_export c o s b e)
 
 -- an operator that works row by row
@@ -89,12 +90,12 @@ run_links regains flow dict c states choices ops whole run a l b =
 
 -- at an operator of one link by a rule, whose need is met
 pub record Ruled (c : Chart) (states : List State) (whole : ℕ → List Row) (run : Lists) (o : ℕ) (rule : RowRule) : Type 0 where
-  pub met : AtInputs c states (by_row rule) (first_into c o ∷ [])
-  pub keeps : Keeps (width_at c) (sort_at c) (state_at states) whole run (first_into c o)
+  pub met : AtInputs c states (by_row rule) (input_of c o ∷ [])
+  pub keeps : Keeps (width_at c) (sort_at c) (state_at states) whole run (input_of c o)
 
 pub is_ruled : (regains : Bool) (flow : Flow) (dict : List Stored) (c : Chart) (states : List State) (choices : List Choice) (ops : ℕ → Op) (whole : ℕ → List Row) (run : Lists) → AcceptedRun regains flow dict c states choices ops whole run →
-    (o : ℕ) → o < length c.flow.ops → (rule : RowRule) → ops o ≡ by_row rule → links_into c o ≡ first_into c o ∷ [] → Ruled c states whole run o rule
-is_ruled regains flow dict c states choices ops whole run a o b rule is one = record { met = there; keeps = run_links regains flow dict c states choices ops whole run a (first_into c o) (link_there c o one) }
+    (o : ℕ) → o < length c.flow.ops → (rule : RowRule) → ops o ≡ by_row rule → links_into c o ≡ input_of c o ∷ [] → Ruled c states whole run o rule
+is_ruled regains flow dict c states choices ops whole run a o b rule is one = record { met = there; keeps = run_links regains flow dict c states choices ops whole run a (input_of c o) (link_there c o one) }
   where
     sound : Sound regains (nodes_of c ops) (width_at c) (sort_at c) (state_at states) whole run
     sound = run_sound regains flow dict c states choices ops whole run a
@@ -105,19 +106,19 @@ is_ruled regains flow dict c states choices ops whole run a o b rule is one = re
     here : AtInputs c states (ops o) (links_into c o)
     here = (node_has (λ (n : Node). InsertedFrom (sort_at c) n.op 0 n.ins) c ops o sound.inserted member, (node_has (MissesNothing regains (width_at c) (state_at states)) c ops o sound.accepted member).0)
 
-    there : AtInputs c states (by_row rule) (first_into c o ∷ [])
+    there : AtInputs c states (by_row rule) (input_of c o ∷ [])
     there = subst (AtInputs c states (by_row rule)) one (subst (λ p. AtInputs c states p (links_into c o)) is here)
 
 -- all rows of the meaning come at it
-ruled_bag : (c : Chart) (states : List State) (whole : ℕ → List Row) (run : Lists) (o : ℕ) (rule : RowRule) → Ruled c states whole run o rule → Bag (run.got (first_into c o)) (whole (first_into c o))
-ruled_bag c states whole run o rule t = (sink_meets rule (width_at c) (sort_at c) (state_at states) whole run (first_into c o) t.met.0 (needs_met (by_row rule) (state_at states (first_into c o) ∷ []) refl tt t.met.1) t.keeps).0
+ruled_bag : (c : Chart) (states : List State) (whole : ℕ → List Row) (run : Lists) (o : ℕ) (rule : RowRule) → Ruled c states whole run o rule → Bag (run.got (input_of c o)) (whole (input_of c o))
+ruled_bag c states whole run o rule t = (sink_meets rule (width_at c) (sort_at c) (state_at states) whole run (input_of c o) t.met.0 (needs_met (by_row rule) (state_at states (input_of c o) ∷ []) refl tt t.met.1) t.keeps).0
 
-pub export_bag : (regains : Bool) (flow : Flow) (dict : List Stored) (c : Chart) (states : List State) (choices : List Choice) (ops : ℕ → Op) (whole : ℕ → List Row) (run : Lists) → AcceptedRun regains flow dict c states choices ops whole run → (o : ℕ) → o < length c.flow.ops → IsExport (op_at c o).kind → Bag (run.got (first_into c o)) (whole (first_into c o))
+pub export_bag : (regains : Bool) (flow : Flow) (dict : List Stored) (c : Chart) (states : List State) (choices : List Choice) (ops : ℕ → Op) (whole : ℕ → List Row) (run : Lists) → AcceptedRun regains flow dict c states choices ops whole run → (o : ℕ) → o < length c.flow.ops → IsExport (op_at c o).kind → Bag (run.got (input_of c o)) (whole (input_of c o))
 export_bag regains flow dict c states choices ops whole run a o b e =
     let x = export_is o (op_at c o).kind (parts_of c o) (ops o) e (a.shaped.kinds o b) in
     ruled_bag c states whole run o (sink_rule x.0) (is_ruled regains flow dict c states choices ops whole run a o b (sink_rule x.0) x.1 (into_export c o a.shaped.shape b e))
 
-pub work_bag : (regains : Bool) (flow : Flow) (dict : List Stored) (c : Chart) (states : List State) (choices : List Choice) (ops : ℕ → Op) (whole : ℕ → List Row) (run : Lists) → AcceptedRun regains flow dict c states choices ops whole run → (o : ℕ) → o < length c.flow.ops → IsByRow (op_at c o).kind → Bag (run.got (first_into c o)) (whole (first_into c o))
+pub work_bag : (regains : Bool) (flow : Flow) (dict : List Stored) (c : Chart) (states : List State) (choices : List Choice) (ops : ℕ → Op) (whole : ℕ → List Row) (run : Lists) → AcceptedRun regains flow dict c states choices ops whole run → (o : ℕ) → o < length c.flow.ops → IsByRow (op_at c o).kind → Bag (run.got (input_of c o)) (whole (input_of c o))
 work_bag regains flow dict c states choices ops whole run a o b w =
     let k = (op_at c o).kind in
     let rule = row_rule o k (parts_of c o) in
@@ -131,5 +132,5 @@ run_keeps regains flow dict c states choices ops whole run a = record {
   sinks = λ o b e.
       let x = export_is o (op_at c o).kind (parts_of c o) (ops o) e (a.shaped.kinds o b) in
       let t = is_ruled regains flow dict c states choices ops whole run a o b (sink_rule x.0) x.1 (into_export c o a.shaped.shape b e) in
-      sinks_meet (sink_rule x.0) (width_at c) (sort_at c) (state_at states) whole run (first_into c o) t.met.0 t.met.1.0 t.keeps;
+      sinks_meet (sink_rule x.0) (width_at c) (sort_at c) (state_at states) whole run (input_of c o) t.met.0 t.met.1.0 t.keeps;
 }

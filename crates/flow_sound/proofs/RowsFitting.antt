@@ -19,7 +19,8 @@ use Rattle.flow_graph.proofs.PartLaws.{parts_all}
 use Rattle.op_shape.specs.Options.{first_fields, output_fields}
 use Rattle.flow_shape.specs.Refusals.{fields_at, inputs_at}
 use Rattle.flow_sound.specs.Fitting.{ExportsFit, IsByRow, MeaningFits, RowsFit}
-use Rattle.flow_sound.specs.Kinds.{IsOfKind, first_into}
+use Rattle.flow_rules.specs.Exports.{input_of}
+use Rattle.flow_sound.specs.Kinds.{IsOfKind}
 use Rattle.flow_sound.proofs.ByRow.{one_input, rows_fit, works_at}
 use Rattle.flow_sound.proofs.Fitting.{given_there, lines_fit}
 use Rattle.flow_sound.proofs.Keeping.{export_bag, export_link}
@@ -73,6 +74,6 @@ meaning_fits flow dict c ops whole s m = along_order (λ l. RowsFit (fields_at c
 
 pub exports_fit : ExportsFit
 exports_fit regains flow dict c states choices ops whole run a o b e =
-    parts_all (λ (r : Row). row_fits (fields_at c (first_into c o)) r ≡ true) (run.got (first_into c o)) (whole (first_into c o))
+    parts_all (λ (r : Row). row_fits (fields_at c (input_of c o)) r ≡ true) (run.got (input_of c o)) (whole (input_of c o))
     (export_bag regains flow dict c states choices ops whole run a o b e)
-    (meaning_fits flow dict c ops whole a.shaped a.means (first_into c o) (export_link c o a.shaped.shape b e))
+    (meaning_fits flow dict c ops whole a.shaped a.means (input_of c o) (export_link c o a.shaped.shape b e))

@@ -26,10 +26,11 @@ use Rattle.flow_graph.specs.Operators.{Op, by_row, faults, import}
 use Rattle.flow_graph.specs.RowRules.{if_worked, row_rule}
 use Rattle.flow_graph.specs.Runs.{Lists, Node, Runs, faults_on, meant_faults, slice}
 use Rattle.flow_graph.proofs.StateLaws.{each_part}
+use Rattle.flow_rules.specs.Exports.{IsExport, input_of}
 use Rattle.flow_rules.specs.Verdicts.{node_at, nodes_of}
 use Rattle.flow_shape.specs.Refusals.{all_ops}
 use Rattle.flow_sound.specs.Fitting.{IsByRow}
-use Rattle.flow_sound.specs.Kinds.{IsExport, IsOfKind, first_into}
+use Rattle.flow_sound.specs.Kinds.{IsOfKind}
 use Rattle.flow_sound.specs.Promise.{AcceptedRun, sort_at}
 use Rattle.flow_sound.specs.Tallies.{ExportIsTallied, MeaningIsTallied, PartitionsAreTallied, RunIsTallied, WorkIsTallied, faults_before, faults_read, faults_worked, faults_written, if_export, if_import, tallied}
 use Rattle.flow_sound.proofs.ByRow.{into_by_row, one_link}
@@ -145,16 +146,16 @@ meaning_tallied flow dict c ops whole s =
 pub export_tallied : ExportIsTallied
 export_tallied regains flow dict c states choices ops whole run a o b e =
     let x = export_is o (op_at c o).kind (parts_of c o) (ops o) e (a.shaped.kinds o b) in
-    subst (λ (f : Op). IsPermutation (faults f (joined (run.got (first_into c o)) ∷ [])) (faults f (whole (first_into c o) ∷ []))) (sym x.1)
-    (flat_rows_permuted x.0 (joined (run.got (first_into c o))) (whole (first_into c o)) (export_bag regains flow dict c states choices ops whole run a o b e))
+    subst (λ (f : Op). IsPermutation (faults f (joined (run.got (input_of c o)) ∷ [])) (faults f (whole (input_of c o) ∷ []))) (sym x.1)
+    (flat_rows_permuted x.0 (joined (run.got (input_of c o))) (whole (input_of c o)) (export_bag regains flow dict c states choices ops whole run a o b e))
 
 -- an operator by rows fails with the same of a run's rows as of the whole
 op_tallied : (regains : Bool) (flow : Flow) (dict : List Stored) (c : Chart) (states : List State) (choices : List Choice) (ops : ℕ → Op) (whole : ℕ → List Row) (run : Lists) → AcceptedRun regains flow dict c states choices ops whole run →
-    (o : ℕ) → o < length c.flow.ops → IsByRow (op_at c o).kind → IsPermutation (faults (ops o) (joined (run.got (first_into c o)) ∷ [])) (faults (ops o) (whole (first_into c o) ∷ []))
+    (o : ℕ) → o < length c.flow.ops → IsByRow (op_at c o).kind → IsPermutation (faults (ops o) (joined (run.got (input_of c o)) ∷ [])) (faults (ops o) (whole (input_of c o) ∷ []))
 op_tallied regains flow dict c states choices ops whole run a o b w =
     let rule = row_rule o (op_at c o).kind (parts_of c o) in
-    subst (λ (f : Op). IsPermutation (faults f (joined (run.got (first_into c o)) ∷ [])) (faults f (whole (first_into c o) ∷ []))) (sym (by_row_is o (op_at c o).kind (parts_of c o) (ops o) w (a.shaped.kinds o b)))
-    (flat_rows_permuted rule.faults (joined (run.got (first_into c o))) (whole (first_into c o)) (work_bag regains flow dict c states choices ops whole run a o b w))
+    subst (λ (f : Op). IsPermutation (faults f (joined (run.got (input_of c o)) ∷ [])) (faults f (whole (input_of c o) ∷ []))) (sym (by_row_is o (op_at c o).kind (parts_of c o) (ops o) w (a.shaped.kinds o b)))
+    (flat_rows_permuted rule.faults (joined (run.got (input_of c o))) (whole (input_of c o)) (work_bag regains flow dict c states choices ops whole run a o b w))
 
 if_exports : (k : OpKind) (xs ys : List Fault) → (IsExport k → IsPermutation xs ys) → IsPermutation (if_export k xs) (if_export k ys)
 if_exports (kind.Export file delim fixed) xs ys h = h tt
@@ -181,12 +182,12 @@ run_tallied regains flow dict c states choices ops whole run a =
 
     worked : (o : ℕ) → IsIn o (all_ops c) → IsPermutation (faults_worked c ops came o) (faults_worked c ops whole o)
     worked o i =
-        if_works IsPermutation (IsPermutation-refl []) (op_at c o).kind (faults (ops o) (came (first_into c o) ∷ [])) (faults (ops o) (whole (first_into c o) ∷ []))
+        if_works IsPermutation (IsPermutation-refl []) (op_at c o).kind (faults (ops o) (came (input_of c o) ∷ [])) (faults (ops o) (whole (input_of c o) ∷ []))
         (op_tallied regains flow dict c states choices ops whole run a o (below_range (length c.flow.ops) o i))
 
     written : (o : ℕ) → IsIn o (all_ops c) → IsPermutation (faults_written c ops came o) (faults_written c ops whole o)
     written o i =
-        if_exports (op_at c o).kind (faults (ops o) (came (first_into c o) ∷ [])) (faults (ops o) (whole (first_into c o) ∷ []))
+        if_exports (op_at c o).kind (faults (ops o) (came (input_of c o) ∷ [])) (faults (ops o) (whole (input_of c o) ∷ []))
         (export_tallied regains flow dict c states choices ops whole run a o (below_range (length c.flow.ops) o i))
 
 pub partitions_tallied : PartitionsAreTallied
@@ -207,13 +208,13 @@ ruled_faults rule got l degree e =
     ∙ joined_map (flat_map rule.faults) (got l)
     ∙ partitions_tallied rule (got l)
 
-node_faults : (c : Chart) (ops : ℕ → Op) (run : Lists) (o : ℕ) (rule : RowRule) → ops o ≡ by_row rule → links_into c o ≡ first_into c o ∷ [] → Runs (sort_at c) run (node_at c ops o) → joined (run.failed o) ≡ faults (ops o) (joined (run.got (first_into c o)) ∷ [])
+node_faults : (c : Chart) (ops : ℕ → Op) (run : Lists) (o : ℕ) (rule : RowRule) → ops o ≡ by_row rule → links_into c o ≡ input_of c o ∷ [] → Runs (sort_at c) run (node_at c ops o) → joined (run.failed o) ≡ faults (ops o) (joined (run.got (input_of c o)) ∷ [])
 node_faults c ops run o rule is one r =
     ap joined r.fails
     ∙ ap (λ (f : Op). joined (map (λ p. faults_on f p (slice p (map run.got (links_into c o)))) (range_with_len 0 r.degree))) is
     ∙ ap (λ ls. joined (map (λ p. faults_on (by_row rule) p (slice p (map run.got ls))) (range_with_len 0 r.degree))) one
-    ∙ ruled_faults rule run.got (first_into c o) r.degree (subst (AllByRecursion (λ l. length (run.got l) ≡ r.degree)) one r.degrees).0
-    ∙ sym (ap (λ (f : Op). faults f (joined (run.got (first_into c o)) ∷ [])) is)
+    ∙ ruled_faults rule run.got (input_of c o) r.degree (subst (AllByRecursion (λ l. length (run.got l) ≡ r.degree)) one r.degrees).0
+    ∙ sym (ap (λ (f : Op). faults f (joined (run.got (input_of c o)) ∷ [])) is)
 
 pub work_tallied : WorkIsTallied
 work_tallied regains flow dict c states choices ops whole run a =
@@ -222,6 +223,6 @@ work_tallied regains flow dict c states choices ops whole run a =
     each : (o : ℕ) → IsIn o (all_ops c) → if_worked (op_at c o).kind (joined (run.failed o)) ≡ faults_worked c ops (λ l. joined (run.got l)) o
     each o i =
         let b = below_range (length c.flow.ops) o i in
-        if_works (λ xs ys. xs ≡ ys) refl (op_at c o).kind (joined (run.failed o)) (faults (ops o) (joined (run.got (first_into c o)) ∷ []))
+        if_works (λ xs ys. xs ≡ ys) refl (op_at c o).kind (joined (run.failed o)) (faults (ops o) (joined (run.got (input_of c o)) ∷ []))
         (λ w. node_faults c ops run o (row_rule o (op_at c o).kind (parts_of c o)) (by_row_is o (op_at c o).kind (parts_of c o) (ops o) w (a.shaped.kinds o b)) (into_by_row c o a.shaped.shape b w)
         (node_has (Runs (sort_at c) run) c ops o a.legal (in_all (length c.flow.ops) o c.order a.shaped.shape.order.once b)))

@@ -15,9 +15,9 @@ use Rattle.flow_graph.specs.Fitting.{KeepsFields}
 use Rattle.flow_graph.specs.FlowShape.{IsShape}
 use Rattle.flow_graph.specs.Operators.{Op}
 use Rattle.flow_graph.specs.Runs.{Lists, Means}
+use Rattle.flow_rules.specs.Exports.{IsExport, input_of}
 use Rattle.flow_rules.specs.Verdicts.{nodes_of}
 use Rattle.flow_shape.specs.Refusals.{IsShapeOf, fields_at}
-use Rattle.flow_sound.specs.Kinds.{IsExport, first_into}
 use Rattle.flow_sound.specs.Promise.{AcceptedRun, ShapedFlow}
 
 -- each row fits these fields
@@ -32,7 +32,7 @@ MeaningFits = (flow : Flow) (dict : List Stored) (c : Chart) (ops : ℕ → Op) 
 -- So do the rows that came at the partitions of an export.
 abbrev pub ExportsFit : Type 0
 ExportsFit = (regains : Bool) (flow : Flow) (dict : List Stored) (c : Chart) (states : List State) (choices : List Choice) (ops : ℕ → Op) (whole : ℕ → List Row) (run : Lists) → AcceptedRun regains flow dict c states choices ops whole run →
-    (o : ℕ) → o < length c.flow.ops → IsExport (op_at c o).kind → AllByRecursion (RowsFit (fields_at c (first_into c o))) (run.got (first_into c o))
+    (o : ℕ) → o < length c.flow.ops → IsExport (op_at c o).kind → AllByRecursion (RowsFit (fields_at c (input_of c o))) (run.got (input_of c o))
 
 -- whether an operator works row by row on the fields of its input
 abbrev pub IsByRow : OpKind → Type 0

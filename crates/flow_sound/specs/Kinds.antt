@@ -1,5 +1,5 @@
 -- Operators as their kinds say, with what the files leave open: the lines of an import, and the rows that an export can't write.
-use Rattle.std.specs.Prelude.{◌≡◌, ◌<◌, ℕ, true, List, length, get_or, ⊤}
+use Rattle.std.specs.Prelude.{◌≡◌, ◌<◌, ℕ, true, List, length}
 use Rattle.std.specs.List.{AllByRecursion}
 use Rattle.ds_schema.specs.declared.schema.Field.{Field}
 use Rattle.ds_schema.specs.Schemas.{row_fits}
@@ -11,7 +11,7 @@ use Rattle.op_base.specs.RowOperators.{copy_rule, sink_rule}
 use Rattle.flow_graph.specs.declared.op_kind.OpKind.{OpKind}
 use Rattle.flow_graph.specs.declared.op_kind.OpKind.TheVariants as kind
 use Rattle.flow_graph.specs.declared.parts.OpParts.{OpParts}
-use Rattle.flow_graph.specs.Charts.{Chart, op_at, parts_of, links_into}
+use Rattle.flow_graph.specs.Charts.{Chart, op_at, parts_of}
 use Rattle.flow_graph.specs.Operators.{Op, import, by_row, tsort, remdup}
 use Rattle.flow_graph.specs.RowRules.{row_rule}
 use Rattle.op_shape.specs.Options.{line_fields}
@@ -36,11 +36,3 @@ IsOfKind o k parts op = ⊥
 
 abbrev pub AreOfKinds : Chart → (ℕ → Op) → Type 0
 AreOfKinds c ops = (o : ℕ) → o < length c.flow.ops → IsOfKind o (op_at c o).kind (parts_of c o) (ops o)
-
-abbrev pub IsExport : OpKind → Type 0
-IsExport (kind.Export file delim fixed) = ⊤
-IsExport k = ⊥
-
--- the link into an operator of one input
-abbrev pub first_into : Chart → ℕ → ℕ
-first_into c o = get_or (links_into c o) 0 0

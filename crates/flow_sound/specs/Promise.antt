@@ -14,12 +14,13 @@ use Rattle.flow_graph.specs.FlowShape.{IsShape}
 use Rattle.flow_graph.specs.Grades.{grade, Meets}
 use Rattle.flow_graph.specs.Operators.{Op}
 use Rattle.flow_graph.specs.Runs.{FitsShape, Lists, Means, Runs, meant_faults, run_faults}
+use Rattle.flow_rules.specs.Exports.{IsExport, input_of}
 use Rattle.flow_rules.specs.declared.verdict.Verdict.TheVariants.{Accepted}
 use Rattle.flow_rules.specs.Soundness.{Keeps}
 use Rattle.flow_derive.specs.LinkStates.{choice_at, state_at}
-use Rattle.flow_rules.specs.Verdicts.{FormsAre, IsVerdict, nodes_of}
+use Rattle.flow_rules.specs.Verdicts.{FormsAre, IsVerdictBy, nodes_of}
 use Rattle.flow_shape.specs.Refusals.{IsShapeOf}
-use Rattle.flow_sound.specs.Kinds.{AreOfKinds, IsExport, first_into}
+use Rattle.flow_sound.specs.Kinds.{AreOfKinds}
 
 -- A shaped flow has a meaning, whatever its operators are.
 abbrev pub HasMeaning : Type 0
@@ -50,7 +51,7 @@ sort_at c l = (choice_at c l).sort
 -- a flow that is accepted, by refining with regain or without, what it means, and a legal run of it
 pub record AcceptedRun (regains : Bool) (flow : Flow) (dict : List Stored) (c : Chart) (states : List State) (choices : List Choice) (ops : ℕ → Op) (whole : ℕ → List Row) (run : Lists) : Type 0 where
   pub shaped : ShapedFlow flow dict c ops
-  pub verdict : IsVerdict regains c (Accepted states choices)
+  pub verdict : IsVerdictBy regains c (Accepted states choices)
   pub means : AllByRecursion (Means whole) (nodes_of c ops)
   pub legal : AllByRecursion (Runs (sort_at c) run) (nodes_of c ops)
 
@@ -59,7 +60,7 @@ pub record KeepsMeaning (c : Chart) (states : List State) (ops : ℕ → Op) (wh
   pub links : (l : ℕ) → l < length c.flow.links → Keeps (width_at c) (sort_at c) (state_at states) whole run l
   pub counts : (l : ℕ) → l < length c.flow.links → length (joined (run.sent l)) ≡ length (whole l)
   pub faults : IsPermutation (run_faults run (nodes_of c ops)) (meant_faults whole (nodes_of c ops))
-  pub sinks : (o : ℕ) → o < length c.flow.ops → IsExport (op_at c o).kind → Meets (grade (width_at c (first_into c o)) (state_at states (first_into c o))) (run.got (first_into c o)) (whole (first_into c o))
+  pub sinks : (o : ℕ) → o < length c.flow.ops → IsExport (op_at c o).kind → Meets (grade (width_at c (input_of c o)) (state_at states (input_of c o))) (run.got (input_of c o)) (whole (input_of c o))
 
 abbrev pub AcceptedRunsKeep : Type 0
 AcceptedRunsKeep = (regains : Bool) (flow : Flow) (dict : List Stored) (c : Chart) (states : List State) (choices : List Choice) (ops : ℕ → Op) (whole : ℕ → List Row) (run : Lists) → AcceptedRun regains flow dict c states choices ops whole run → KeepsMeaning c states ops whole run

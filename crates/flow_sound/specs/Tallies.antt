@@ -16,9 +16,9 @@ use Rattle.flow_graph.specs.Charts.{Chart, op_at}
 use Rattle.flow_graph.specs.Operators.{Op, by_row, faults}
 use Rattle.flow_graph.specs.RowRules.{if_worked}
 use Rattle.flow_graph.specs.Runs.{Lists, meant_faults}
+use Rattle.flow_rules.specs.Exports.{IsExport, input_of}
 use Rattle.flow_rules.specs.Verdicts.{nodes_of}
 use Rattle.flow_shape.specs.Refusals.{all_ops}
-use Rattle.flow_sound.specs.Kinds.{IsExport, first_into}
 use Rattle.flow_sound.specs.Promise.{AcceptedRun, ShapedFlow}
 
 -- what is found, where an operator is an import, or an export
@@ -36,11 +36,11 @@ faults_read c ops o = if_import (op_at c o).kind (faults (ops o) [])
 
 -- where it works row by row on these rows of the link into it
 abbrev pub faults_worked : Chart → (ℕ → Op) → (ℕ → List Row) → ℕ → List Fault
-faults_worked c ops rows o = if_worked (op_at c o).kind (faults (ops o) (rows (first_into c o) ∷ []))
+faults_worked c ops rows o = if_worked (op_at c o).kind (faults (ops o) (rows (input_of c o) ∷ []))
 
 -- and where it exports these rows of the link into it
 abbrev pub faults_written : Chart → (ℕ → Op) → (ℕ → List Row) → ℕ → List Fault
-faults_written c ops rows o = if_export (op_at c o).kind (faults (ops o) (rows (first_into c o) ∷ []))
+faults_written c ops rows o = if_export (op_at c o).kind (faults (ops o) (rows (input_of c o) ∷ []))
 
 -- before anything is written: those of imports and of operators by rows, by the numbers of the operators
 abbrev pub faults_before : Chart → (ℕ → Op) → (ℕ → List Row) → List Fault
@@ -62,7 +62,7 @@ RunIsTallied = (regains : Bool) (flow : Flow) (dict : List Stored) (c : Chart) (
 -- And export by export.
 abbrev pub ExportIsTallied : Type 0
 ExportIsTallied = (regains : Bool) (flow : Flow) (dict : List Stored) (c : Chart) (states : List State) (choices : List Choice) (ops : ℕ → Op) (whole : ℕ → List Row) (run : Lists) → AcceptedRun regains flow dict c states choices ops whole run →
-    (o : ℕ) → o < length c.flow.ops → IsExport (op_at c o).kind → IsPermutation (faults (ops o) (joined (run.got (first_into c o)) ∷ [])) (faults (ops o) (whole (first_into c o) ∷ []))
+    (o : ℕ) → o < length c.flow.ops → IsExport (op_at c o).kind → IsPermutation (faults (ops o) (joined (run.got (input_of c o)) ∷ [])) (faults (ops o) (whole (input_of c o) ∷ []))
 
 -- Those of the partitions of an operator by rows, one after the other, are those of all its rows.
 abbrev pub PartitionsAreTallied : Type 0

@@ -17,6 +17,7 @@ use Rattle.flow_graph.specs.FlowShape.{IsShape}
 use Rattle.flow_graph.specs.Operators.{Op, import, result}
 use Rattle.flow_graph.specs.Runs.{Lists, Runs, Gives, Delivers, FitsDegree, faults_on, slice}
 use Rattle.flow_derive.specs.LinkStates.{choice_at}
+use Rattle.flow_rules.specs.Exports.{input_of}
 use Rattle.flow_rules.specs.Verdicts.{node_at, out_at}
 use Rattle.flow_ops.specs.Kept.{if_between}
 use Rattle.list_run.specs.declared.held.Held.{Held}

@@ -10,7 +10,7 @@ use Rattle.op_base.specs.Columns.{IsIn}
 use Rattle.flow_graph.specs.declared.route.Choice.{Choice}
 use Rattle.flow_graph.specs.Charts.{Chart, link_at, all_links, links_into, links_from}
 use Rattle.flow_derive.specs.LinkStates.{choice_at}
-use Rattle.list_run.specs.Runnable.{first_into}
+use Rattle.flow_rules.specs.Exports.{input_of}
 
 -- a member is one whichever value stands for a missing one
 pub same_at : {X : Type 0} (xs : List X) (i : ℕ) (d e : X) → i < length xs → get_or xs i d ≡ get_or xs i e
@@ -56,12 +56,12 @@ none_in p a (suc n) h =
 zero_plus : (l : ℕ) → 0 + l ≡ l
 zero_plus l = omega arith
 
-pub first_is : (c : Chart) (o l : ℕ) → l < length c.flow.links → (link_at c l).to ≡ o → ((k : ℕ) → k < l → (link_at c k).to ≢ o) → l ≡ first_into c o
+pub first_is : (c : Chart) (o l : ℕ) → l < length c.flow.links → (link_at c l).to ≡ o → ((k : ℕ) → k < l → (link_at c k).to ≢ o) → l ≡ input_of c o
 first_is c o l m e h =
     let test : ℕ → Bool = λ k. (link_at c k).to == o in
     sym (first_in test 0 (length c.flow.links) l m (ap test (zero_plus l) ∙ eq_true (link_at c l).to o e) (λ k n. ap test (zero_plus k) ∙ eq_false (link_at c k).to o (h k n)) ∙ zero_plus l)
 
-pub first_none : (c : Chart) (o : ℕ) → ((k : ℕ) → k < length c.flow.links → (link_at c k).to ≢ o) → 0 ≡ first_into c o
+pub first_none : (c : Chart) (o : ℕ) → ((k : ℕ) → k < length c.flow.links → (link_at c k).to ≢ o) → 0 ≡ input_of c o
 first_none c o h =
     let test : ℕ → Bool = λ k. (link_at c k).to == o in
     sym (ap (λ ls. get_or ls 0 0) (none_in test 0 (length c.flow.links) (λ k n. ap test (zero_plus k) ∙ eq_false (link_at c k).to o (h k n))))

@@ -156,7 +156,7 @@ stands_next c choices nodes given n rest after held new r m b stands steps = rec
     counted l k (inl h) = steps.kept_counts l k (other (link_at c l).from h) ∙ stands.counts l k h
     counted l k (inr e) = steps.counts l k e ∙ ap row_count (held_sent c choices nodes given n rest held r m stands l k e)
 
-    kept : (p : ℕ) → IsExport (op_at c p).kind → HadTurn c n p ⊎ (p ≡ get_or c.order n 0) → get_or new.sinks.items p [] ≡ got_in c nodes given (first_into c p)
+    kept : (p : ℕ) → IsExport (op_at c p).kind → HadTurn c n p ⊎ (p ≡ get_or c.order n 0) → get_or new.sinks.items p [] ≡ got_in c nodes given (input_of c p)
     kept p e (inl h) = steps.kept_sinks p (other p h) ∙ stands.sinks p h e
     kept p e (inr q) =
         let e' = subst (λ o. IsExport (op_at c o).kind) q e in

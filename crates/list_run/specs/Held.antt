@@ -82,7 +82,7 @@ outputs c o l = cond (nat_lt l (length c.flow.links)) (leaves c o l) false
 
 -- what a copy, a tsort or a remdup makes of what waits at its input
 abbrev pub made_at : Chart → ℕ → Held → List (List Row)
-made_at c o held = map (made (op_at c o).kind (keys_at c o)) (get_or held.waiting.items (first_into c o) [])
+made_at c o held = map (made (op_at c o).kind (keys_at c o)) (get_or held.waiting.items (input_of c o) [])
 
 -- what an operator makes of what waits at its inputs for a link
 abbrev pub worked_at : Chart → ℕ → Held → ℕ → List (List Row)
@@ -112,6 +112,6 @@ pub record Steps (c : Chart) (nodes o : ℕ) (before after : List (List Row)) (o
   pub kept : (l : ℕ) → l < length c.flow.links → (link_at c l).from ≢ o → (link_at c l).to ≢ o → get_or new.waiting.items l [] ≡ get_or old.waiting.items l []
   pub kept_counts : (l : ℕ) → l < length c.flow.links → (link_at c l).from ≢ o → get_or new.counts.items l 0 ≡ get_or old.counts.items l 0
   pub kept_given : (l : ℕ) → l < length c.flow.links → (link_at c l).from ≢ o → get_or after l [] ≡ get_or before l []
-  pub sink : IsExport (op_at c o).kind → get_or new.sinks.items o [] ≡ get_or old.waiting.items (first_into c o) []
+  pub sink : IsExport (op_at c o).kind → get_or new.sinks.items o [] ≡ get_or old.waiting.items (input_of c o) []
   pub kept_sinks : (p : ℕ) → p ≢ o → get_or new.sinks.items p [] ≡ get_or old.sinks.items p []
   pub found : Grows old.tally new.tally (found_at c o (waits old))

@@ -19,6 +19,7 @@ use Rattle.flow_graph.specs.Operators.{Op, import, by_row, tsort, remdup, group,
 use Rattle.flow_graph.specs.RowRules.{row_rule}
 use Rattle.flow_graph.specs.Runs.{Lists, Runs}
 use Rattle.flow_derive.specs.LinkStates.{choice_at}
+use Rattle.flow_rules.specs.Exports.{IsExport, input_of}
 use Rattle.flow_rules.specs.Verdicts.{nodes_of}
 use Rattle.flow_ops.specs.Keyed.{aggs_of, group_of}
 use Rattle.flow_ops.specs.Kept.{GivesFields, SumsFit, if_between}
@@ -84,10 +85,6 @@ OpIs c sources o op k = ⊥
 abbrev pub OpsAre : Chart → List (List Row) → (ℕ → Op) → Type 0
 OpsAre c sources ops = (o : ℕ) → o < length c.flow.ops → OpIs c sources o (ops o) (op_at c o).kind
 
-abbrev pub IsExport : OpKind → Type 0
-IsExport (kind.Export file delim fixed) = ⊤
-IsExport k = ⊥
-
 -- as far as rows are counted
 abbrev pub row_count : List (List Row) → ℕ
 row_count lists = min (length (joined lists)) (2 ^ 63 - 1)
@@ -109,5 +106,5 @@ pub record IsRunOf (c : Chart) (nodes : ℕ) (ops : ℕ → Op) (ran : Ran) : Ty
   pub legal : AllByRecursion (Runs (λ l. (choice_at c l).sort) run) (nodes_of c ops)
   pub degrees : (l : ℕ) → l < length c.flow.links → (length (run.sent l) ≡ degree_at c nodes (link_at c l).from) × (length (run.got l) ≡ degree_at c nodes (link_at c l).to)
   pub counts : ran.counts ≡ map (λ l. row_count (run.sent l)) (all_links c)
-  pub sinks : (o : ℕ) → o < length c.flow.ops → IsExport (op_at c o).kind → get_or ran.sinks o [] ≡ run.got (first_into c o)
+  pub sinks : (o : ℕ) → o < length c.flow.ops → IsExport (op_at c o).kind → get_or ran.sinks o [] ≡ run.got (input_of c o)
   pub faults : Counts (worked_faults c run) ran

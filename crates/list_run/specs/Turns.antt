@@ -7,7 +7,8 @@ use Rattle.flow_graph.specs.Charts.{Chart, link_at, op_at}
 use Rattle.list_run.specs.declared.held.Held.{Held}
 use Rattle.list_run.specs.Found.{Tallies}
 use Rattle.list_run.specs.Held.{HasRoom, sent_on, got_on, found_at}
-use Rattle.list_run.specs.Runnable.{first_into, row_count, IsExport}
+use Rattle.flow_rules.specs.Exports.{IsExport, input_of}
+use Rattle.list_run.specs.Runnable.{row_count}
 
 -- what comes on a link after so many turns, where each operator has one at once
 unfoldable pub lists_after : Chart → ℕ → List (List Row) → ℕ → ℕ → List (List Row)
@@ -35,5 +36,5 @@ pub record Stands (c : Chart) (nodes : ℕ) (given : List (List Row)) (n : ℕ) 
   pub waiting : (l : ℕ) → l < length c.flow.links → HadTurn c n (link_at c l).from → (HadTurn c n (link_at c l).to → ⊥) → get_or held.waiting.items l [] ≡ got_in c nodes given l
   pub counts : (l : ℕ) → l < length c.flow.links → HadTurn c n (link_at c l).from → get_or held.counts.items l 0 ≡ row_count (sent_in c nodes given l)
   pub rest_is : (l : ℕ) → l < length c.flow.links → (HadTurn c n (link_at c l).from → ⊥) → get_or rest l [] ≡ get_or given l []
-  pub sinks : (o : ℕ) → HadTurn c n o → IsExport (op_at c o).kind → get_or held.sinks.items o [] ≡ got_in c nodes given (first_into c o)
+  pub sinks : (o : ℕ) → HadTurn c n o → IsExport (op_at c o).kind → get_or held.sinks.items o [] ≡ got_in c nodes given (input_of c o)
   pub found : Tallies (found_after c nodes given n) held.tally

@@ -57,7 +57,7 @@ fn degree(shaped: &Shaped, nodes: u32, op: u32) -> u32
 
 /// The link at input 0.
 fn input_of(shaped: &Shaped, op: u32) -> usize
-    ensures { result ≡ first_into shaped.now op }
+    ensures { result ≡ input_of shaped.now op }
 {
     for (link, spec) in shaped.flow().links.as_slice().iter().enumerate() {
         if spec.to == op {
@@ -308,9 +308,9 @@ fn send_sources(
 /// Keeps what came at an export.
 fn keep(alloc: Global, shaped: &Shaped, op: u32, held: &mut Held)
     requires { op < length held.old.sinks.items }
-    ensures waiting { held.new.waiting.items ≡ set held.old.waiting.items (first_into shaped.now op) [] }
+    ensures waiting { held.new.waiting.items ≡ set held.old.waiting.items (input_of shaped.now op) [] }
     ensures counts { held.new.counts.items ≡ held.old.counts.items }
-    ensures sinks { held.new.sinks.items ≡ set held.old.sinks.items op (get_or held.old.waiting.items (first_into shaped.now op) []) }
+    ensures sinks { held.new.sinks.items ≡ set held.old.sinks.items op (get_or held.old.waiting.items (input_of shaped.now op) []) }
     ensures tally { held.new.tally ≡ held.old.tally }
 {
     let got = take_at(alloc, &mut held.waiting, input_of(shaped, op));

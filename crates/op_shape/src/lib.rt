@@ -4,6 +4,11 @@
 
 mod expressions;
 mod fault;
+mod grouping;
+mod inputs;
+mod joining;
+mod keying;
+mod looking;
 mod modifying;
 pub mod naming;
 mod options;

@@ -6,7 +6,8 @@ use Rattle.osh_call.specs.declared.answer.Answer.TheVariants as answer
 use Rattle.osh_call.specs.Answers.{Answers, Serves}
 use Rattle.osh_call.specs.Saying.{err_line, answer_status, IsMade, SaidAs}
 use Rattle.osh_ends.specs.Ends.{End, ComesTo, OneStatus, end_status, absent, bad_config, bad_flow, bad_shape, crowded, mismatch}
-use Rattle.osh_ends.specs.Leaves.{Broke, Ended, IsComplete, IsExact, Leaves, Runs, Tells, line, outputs, printed, with_files}
+use Rattle.flow_outputs.specs.Outputs.{with_files}
+use Rattle.osh_ends.specs.Leaves.{Broke, Ended, IsComplete, IsExact, Leaves, Runs, Tells, line, outputs, printed}
 use Rattle.osh.specs.Calls.{Calls, IsStatus}
 
 -- an answer's line and status are those of its end

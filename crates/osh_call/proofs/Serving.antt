@@ -1,12 +1,13 @@
 -- How a call is served by what its stages answer.
-use Rattle.std.proofs.Common.{◌≡◌, ◌++◌, ◌∙◌, ◌⊎◌, inl, inr, ℕ, Bool, false, IsTrue, List, [], take, ap, sym, subst, refl, append-nil, arith, Some}
+use Rattle.std.proofs.Common.{◌≡◌, ◌++◌, ◌∙◌, ◌⊎◌, inl, inr, ℕ, Bool, IsTrue, List, [], take, ap, sym, subst, refl, append-nil, arith, Some}
 use Rattle.ds_port.specs.FileMap.{FileMap, file_at}
 use Rattle.flow_graph.specs.Charts.{Chart}
 use Rattle.flow_rules.specs.declared.verdict.Verdict.{Verdict}
 use Rattle.flow_rules.specs.declared.verdict.Verdict.TheVariants.{Accepted, Refused}
 use Rattle.flow_rules.specs.Verdicts.{IsVerdict}
 use Rattle.osh_ends.specs.Ends.{End, usage, unbuilt, bad_flow, bad_config, bad_shape, absent, mismatch, crowded, verdict_end, Checks, ChecksFile, FlowIn, NodesIn, Shapes}
-use Rattle.osh_ends.specs.Leaves.{Broke, Leaves, with_files, outputs, printed}
+use Rattle.flow_outputs.specs.Outputs.{with_files}
+use Rattle.osh_ends.specs.Leaves.{Broke, Leaves, outputs, printed}
 use Rattle.osh_ends.specs.Steps.{Reads}
 use Rattle.osh_ends.specs.Reports.{verdict_report}
 use Rattle.osh_call.specs.declared.answer.Answer.{Answer}
@@ -36,7 +37,7 @@ halts_serve Comes old new tells out_old out_new files_rose out_rose answer.Devic
 halts_serve Comes old new tells out_old out_new files_rose out_rose answer.Memory h f o r = inr (inr (refl, record { files_are = f; out = nothing_more tells o }))
 
 -- what a check comes to
-check_comes : (files : FileMap) (name : List ℕ) (c : Chart) (v : Verdict) → IsShapeIn files name c → IsVerdict false c v → ChecksFile files name (verdict_end c v)
+check_comes : (files : FileMap) (name : List ℕ) (c : Chart) (v : Verdict) → IsShapeIn files name c → IsVerdict c v → ChecksFile files name (verdict_end c v)
 check_comes files name c v s h = inr (s.has.text, s.has.found, inr (s.flow, s.has.is.spelled, inr (s.has.is.built, inr (c, s.shape, (v, h, refl)))))
 
 no_outputs : (c : Chart) (v : Verdict) → outputs (verdict_end c v) ≡ []
@@ -60,7 +61,7 @@ verdict_serves Comes old new c v tells out_old out_new files_rose out_rose a com
 verdict_serves Comes old new c v tells out_old out_new files_rose out_rose a comes f (inr (inr (is, out))) =
     inr (inr (is, record { files_are = f; out = nothing_more tells out }))
 
-pub tells_serve : (old new : FileMap) (name : List ℕ) (c : Chart) (v : Verdict) (tells : Bool) (out_old out_new : List ℕ) (files_rose out_rose : Type 0) (a : Answer) → IsShapeIn old name c → IsVerdict false c v → new ≡ old → Tells c v tells out_old out_new out_rose a → Serves (ChecksFile old name) old new tells out_old out_new files_rose out_rose a
+pub tells_serve : (old new : FileMap) (name : List ℕ) (c : Chart) (v : Verdict) (tells : Bool) (out_old out_new : List ℕ) (files_rose out_rose : Type 0) (a : Answer) → IsShapeIn old name c → IsVerdict c v → new ≡ old → Tells c v tells out_old out_new out_rose a → Serves (ChecksFile old name) old new tells out_old out_new files_rose out_rose a
 tells_serve old new name c v tells out_old out_new files_rose out_rose a s h f t =
     verdict_serves (ChecksFile old name) old new c v tells out_old out_new files_rose out_rose a (check_comes old name c v s h) f t
 

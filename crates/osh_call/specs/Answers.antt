@@ -7,7 +7,8 @@ use Rattle.osh_ends.specs.Reports.{verdict_report}
 use Rattle.osh_call.specs.declared.answer.Answer.{Answer}
 use Rattle.osh_call.specs.declared.answer.Answer.TheVariants as answer
 use Rattle.osh_ends.specs.Ends.{End, usage, unbuilt, bad_flow, bad_config, bad_shape, absent, refused, checked, mismatch, crowded, done, faulty, verdict_end}
-use Rattle.osh_ends.specs.Leaves.{Leaves, Broke, with_files, outputs, printed}
+use Rattle.flow_outputs.specs.Outputs.{with_files}
+use Rattle.osh_ends.specs.Leaves.{Leaves, Broke, outputs, printed}
 
 -- the answer is that of the end
 abbrev pub Answers : Answer → End → Type 0

@@ -1,6 +1,6 @@
 //! The shape of a flow and the verdict on it.
 
-ghost use Rattle.std.specs.Prelude.{◌≡◌, [], false, IsTrue, IfOk, IfErr};
+ghost use Rattle.std.specs.Prelude.{◌≡◌, [], IsTrue, IfOk, IfErr};
 ghost use Rattle.flow_shape.specs.Refusals.{IsShapeOf};
 ghost use Rattle.flow_rules.specs.Verdicts.{IsVerdict};
 ghost use Rattle.ds_port.specs.Causes.{HasCause};
@@ -51,7 +51,7 @@ pub fn shape_at<F: Files>(alloc: Global, files: &mut F, name: &Name) -> Result<S
 #[tactic(auto, using(crate::proofs::BuiltFlows::routed))]
 pub fn judged(shaped: &Shaped) -> Result<Verdict, NoMemory>
     requires { IsBuiltShape shaped.now }
-    ensures { IfOk result (λ v. IsVerdict false shaped.now v) }
+    ensures { IfOk result (λ v. IsVerdict shaped.now v) }
 {
     shaped.is_shaped();
     infer(shaped)

@@ -1,6 +1,6 @@
 //! The command `check`.
 
-ghost use Rattle.std.specs.Prelude.{◌≡◌, ◌⊎◌, false, IfOk, IsTrue};
+ghost use Rattle.std.specs.Prelude.{◌≡◌, ◌⊎◌, IfOk, IsTrue};
 ghost use Rattle.ds_port.specs.Causes.{Rose};
 ghost use Rattle.flow_rules.specs.Verdicts.{IsVerdict};
 ghost use Rattle.osh_ends.specs.Ends.{ChecksFile};
@@ -21,7 +21,7 @@ use std::alloc::Global;
 /// The report of a verdict.
 #[tactic(auto, using(crate::proofs::VerdictsOf::is_of))]
 pub fn verdict_report(alloc: Global, shaped: &Shaped, verdict: &Verdict) -> Result<Bytes, NoMemory>
-    requires { IsVerdict false shaped.now verdict.now }
+    requires { IsVerdict shaped.now verdict.now }
     ensures { IfOk result (λ text. text ≡ verdict_report shaped.now verdict.now) }
 {
     shaped.is_shaped();
@@ -36,7 +36,7 @@ pub fn verdict_report(alloc: Global, shaped: &Shaped, verdict: &Verdict) -> Resu
 
 /// Prints the report of a verdict.
 pub fn tell<O: Sink>(alloc: Global, out: &mut O, shaped: &Shaped, verdict: &Verdict) -> Answer
-    requires { IsVerdict false shaped.now verdict.now }
+    requires { IsVerdict shaped.now verdict.now }
     ensures told { Tells shaped.now verdict.now O.tells (O.held out.old) (O.held out.new) (Rose (O.faults out.old) (O.faults out.new)) result }
     ensures command { IsOfCommand result }
 {

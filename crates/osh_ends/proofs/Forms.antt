@@ -12,7 +12,8 @@ use Rattle.op_shape.specs.Causes.{cause_if, first_cause}
 use Rattle.op_shape.specs.Options.{option_causes, output_causes, widths_cause}
 use Rattle.op_shape.proofs.Firsts.{none_both}
 use Rattle.flow_shape.specs.Refusals.{Fits, input_cause, inputs_at}
-use Rattle.osh_ends.specs.FlowFiles.{fields_of, form, input_of}
+use Rattle.flow_rules.specs.Exports.{input_of}
+use Rattle.osh_ends.specs.FlowFiles.{fields_of, form}
 
 -- the form of an operator's file suits the columns of its rows
 abbrev pub FormSuits : Chart → ℕ → OpKind → Type 0

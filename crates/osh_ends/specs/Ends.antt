@@ -11,6 +11,7 @@ use Rattle.config_read.specs.Pools.{default_count}
 use Rattle.config_read.specs.First.{IsSpelled, IsFirstFault}
 use Rattle.flow_files.specs.Tallies.{IsLeast}
 use Rattle.flow_files.specs.Texts.{exported_text}
+use Rattle.flow_outputs.specs.Outputs.{NamedFile}
 use Rattle.flow_graph.specs.declared.flow.Flow.{Flow}
 use Rattle.flow_graph.specs.declared.op_kind.OpKind.{OpKind}
 use Rattle.flow_graph.specs.declared.op_kind.OpKind.TheVariants as kind
@@ -20,6 +21,7 @@ use Rattle.flow_graph.specs.Charts.{Chart, op_at, width_at}
 use Rattle.flow_graph.specs.Grades.{grade, Meets}
 use Rattle.flow_graph.specs.Operators.{Op}
 use Rattle.flow_graph.specs.Runs.{meant_faults}
+use Rattle.flow_rules.specs.Exports.{IsExport, input_of}
 use Rattle.flow_rules.specs.declared.verdict.Verdict.{Verdict}
 use Rattle.flow_rules.specs.declared.verdict.Verdict.TheVariants.{Accepted, Refused}
 use Rattle.flow_derive.specs.LinkStates.{state_at}
@@ -34,13 +36,9 @@ use Rattle.osh_words.specs.declared.command.Command.{Command}
 use Rattle.osh_words.specs.declared.command.Command.TheVariants as command
 use Rattle.osh_words.specs.Spelled.{Spells}
 use Rattle.osh_ends.specs.Built.{is_built}
-use Rattle.osh_ends.specs.FlowFiles.{IsMeaning, first_missing, form, input_of, fields_of}
+use Rattle.osh_ends.specs.FlowFiles.{IsMeaning, first_missing, form, fields_of}
 use Rattle.osh_ends.specs.Reports.{verdict_report, report, fault_report}
 use Rattle.osh_ends.specs.Steps.{Reads, Spelled}
-
--- a file's name, and what it holds
-abbrev pub NamedFile : Type 0
-NamedFile = List ℕ × List ℕ
 
 -- words that are no command; a command or a part of a flow that isn't built; faults of the texts and of the shape; a file that isn't there;
 -- a flow that is refused, and one that is sound, each with the report; degrees or players that can't be; files that are written, and the report; the report of faults
@@ -88,7 +86,7 @@ verdict_end c (Accepted states choices) = checked (verdict_report c (Accepted st
 verdict_end c (Refused link need have) = refused (verdict_report c (Refused link need have))
 
 abbrev pub Checks : Chart → End → Type 0
-Checks c end = (v : Verdict) × IsVerdict false c v × (end ≡ verdict_end c v)
+Checks c end = (v : Verdict) × IsVerdict c v × (end ≡ verdict_end c v)
 
 -- ---- a run
 
@@ -100,10 +98,6 @@ file_of c parts o k = []
 -- the files of all exports, by operator number, from the rows in the partitions of each link
 abbrev pub files_of : Chart → (ℕ → List (List Row)) → List NamedFile
 files_of c parts = flat_map (λ o. file_of c parts o (op_at c o).kind) (range_with_len 0 (length c.flow.ops))
-
-abbrev pub IsExport : OpKind → Type 0
-IsExport (kind.Export file delim fixed) = Unit {0}
-IsExport k = ⊥
 
 -- what comes at each export is the meaning's, for every key of the grade that is printed for it
 abbrev pub MeetsGrades : Chart → List State → (ℕ → List Row) → (ℕ → List (List Row)) → Type 0
@@ -132,7 +126,7 @@ AcceptedRuns files c nodes (Accepted states choices) end = SeatsOn c choices nod
 AcceptedRuns files c nodes (Refused link need have) end = end ≡ refused (verdict_report c (Refused link need have))
 
 abbrev pub VerdictRuns : FileMap → Chart → ℕ → End → Type 0
-VerdictRuns files c nodes end = (v : Verdict) × IsVerdict false c v × AcceptedRuns files c nodes v end
+VerdictRuns files c nodes end = (v : Verdict) × IsVerdict c v × AcceptedRuns files c nodes v end
 
 -- ---- commands
 

@@ -11,13 +11,14 @@ use Rattle.ds_text.specs.declared.form.Form.{Form}
 use Rattle.ds_text.specs.declared.form.Form.TheVariants.{Delimited, Fixed}
 use Rattle.flow_files.specs.Lines.{AreLines, beyond}
 use Rattle.flow_files.specs.Texts.{export_faults}
-use Rattle.flow_graph.specs.Charts.{Chart, op_at, keys_at, parts_of, links_into}
+use Rattle.flow_graph.specs.Charts.{Chart, op_at, keys_at, parts_of}
 use Rattle.flow_graph.specs.Operators.{Op, import, by_row, tsort, remdup}
 use Rattle.flow_graph.specs.RowRules.{row_rule}
 use Rattle.flow_graph.specs.Runs.{Means}
 use Rattle.flow_graph.specs.declared.flow.OpSpec.{OpSpec}
 use Rattle.flow_graph.specs.declared.op_kind.OpKind.{OpKind}
 use Rattle.flow_graph.specs.declared.op_kind.OpKind.TheVariants as kind
+use Rattle.flow_rules.specs.Exports.{input_of}
 use Rattle.flow_rules.specs.Verdicts.{nodes_of}
 
 abbrev pub missing_if : Option (List ℕ) → List ℕ → Option (List ℕ)
@@ -37,10 +38,6 @@ first_of (Some name) later = Some name
 abbrev pub first_missing : FileMap → List OpSpec → Option (List ℕ)
 first_missing files [] = None
 first_missing files (op ∷ ops) = first_of (missing_of files op.kind) (first_missing files ops)
-
--- the link into an operator of one input
-abbrev pub input_of : Chart → ℕ → ℕ
-input_of c o = get_or (links_into c o) 0 0
 
 abbrev pub fields_of : Chart → ℕ → List Field
 fields_of c l = get_or c.schemas l []

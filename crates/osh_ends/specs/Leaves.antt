@@ -4,17 +4,13 @@ use Rattle.std.specs.Fmt.{decimal}
 use Rattle.config_read.specs.declared.fault.ConfigWhy.{ConfigWhy}
 use Rattle.config_read.specs.declared.fault.ConfigWhy.TheVariants as config_why
 use Rattle.ds_port.specs.Causes.{Rose}
-use Rattle.ds_port.specs.FileMap.{FileMap, with_file}
+use Rattle.ds_port.specs.FileMap.{FileMap}
+use Rattle.flow_outputs.specs.Outputs.{NamedFile, with_files}
 use Rattle.op_shape.specs.declared.fault.ShapeWhy.{ShapeWhy}
 use Rattle.op_shape.specs.declared.fault.ShapeWhy.TheVariants as shape_why
 use Rattle.osh_read.specs.declared.fault.OshWhy.{OshWhy}
 use Rattle.osh_read.specs.declared.fault.OshWhy.TheVariants as flow_why
-use Rattle.osh_ends.specs.Ends.{End, NamedFile, usage, unbuilt, bad_flow, bad_config, bad_shape, absent, refused, checked, mismatch, crowded, done, faulty, end_status, ComesTo}
-
--- one file after another is made
-abbrev pub with_files : FileMap → List NamedFile → FileMap
-with_files files [] = files
-with_files files (f ∷ more) = with_files (with_file files (f.0) (f.1)) more
+use Rattle.osh_ends.specs.Ends.{End, usage, unbuilt, bad_flow, bad_config, bad_shape, absent, refused, checked, mismatch, crowded, done, faulty, end_status, ComesTo}
 
 abbrev pub outputs : End → List NamedFile
 outputs usage = []

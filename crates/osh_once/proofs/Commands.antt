@@ -12,7 +12,7 @@ use Rattle.flow_graph.specs.declared.state.State.{State}
 use Rattle.flow_graph.specs.Runs.{meant_faults}
 use Rattle.flow_rules.specs.declared.verdict.Verdict.{Verdict}
 use Rattle.flow_rules.specs.declared.verdict.Verdict.TheVariants.{Accepted, Refused}
-use Rattle.flow_rules.specs.Verdicts.{IsVerdict, nodes_of}
+use Rattle.flow_rules.specs.Verdicts.{IsVerdict, nodes_of, infer_regains}
 use Rattle.flow_rules.proofs.OneVerdict.{one_verdict}
 use Rattle.flow_shape.specs.Refusals.{IsShapeOf}
 use Rattle.flow_shape.specs.Spelled.{IsJoined}
@@ -37,8 +37,8 @@ read_forms bytes flow h = spelled_forms (limited_text Osh bytes).lexemes flow (t
 
 -- ---- verdicts
 
-same_verdict : (flow : Flow) (c : Chart) (v w : Verdict) → IsJoined flow → IsShapeOf flow [] c → IsVerdict false c v → IsVerdict false c w → v ≡ w
-same_verdict flow c v w joined s p q = one_verdict false c v w (is_forward flow [] c s) (covers_links flow [] c joined s) p q
+same_verdict : (flow : Flow) (c : Chart) (v w : Verdict) → IsJoined flow → IsShapeOf flow [] c → IsVerdict c v → IsVerdict c w → v ≡ w
+same_verdict flow c v w joined s p q = one_verdict infer_regains c v w (is_forward flow [] c s) (covers_links flow [] c joined s) p q
 
 one_check : (flow : Flow) (c : Chart) → IsJoined flow → IsShapeOf flow [] c → HasOneStatus (Checks c)
 one_check flow c joined s x y p q =

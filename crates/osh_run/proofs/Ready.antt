@@ -1,5 +1,5 @@
 -- What a run needs of its flow.
-use Rattle.std.proofs.Common.{◌≡◌, ◌<◌, ℕ, Bool, true, false, List, [], length, ap, sym, subst, ◌∙◌}
+use Rattle.std.proofs.Common.{◌≡◌, ◌<◌, ℕ, Bool, true, List, [], length, ap, sym, subst, ◌∙◌}
 use Rattle.flow_graph.specs.declared.flow.Flow.{Flow}
 use Rattle.flow_graph.specs.declared.route.Choice.{Choice}
 use Rattle.flow_graph.specs.declared.state.State.{State}
@@ -15,7 +15,7 @@ use Rattle.osh_ends.specs.Built.{is_built}
 use Rattle.osh_sound.specs.Sound.{KeepsForms, KeepsMarks, ReadKeepsForms, ReadKeepsMarks}
 use Rattle.run_feed.specs.Fed.{IsReady}
 
-pub is_ready : (c : Chart) (choices : List Choice) (nodes players : ℕ) (states : List State) → ReadKeepsMarks → ReadKeepsForms → IsBuiltShape c → 0 < nodes → IsVerdict false c (Accepted states choices) → Seats c choices nodes players → IsReady c choices nodes
+pub is_ready : (c : Chart) (choices : List Choice) (nodes players : ℕ) (states : List State) → ReadKeepsMarks → ReadKeepsForms → IsBuiltShape c → 0 < nodes → IsVerdict c (Accepted states choices) → Seats c choices nodes players → IsReady c choices nodes
 is_ready c choices nodes players states keeps forms b some verdict seats = record {
   some = some;
   built = subst (λ (f : Flow). is_built f ≡ true) (sym b.shape.same) b.read.is.built;
@@ -28,5 +28,5 @@ is_ready c choices nodes players states keeps forms b some verdict seats = recor
   seats = seats;
 }
 
-pub each_choice : (c : Chart) (choices : List Choice) (states : List State) → IsVerdict false c (Accepted states choices) → length choices ≡ length c.flow.links
+pub each_choice : (c : Chart) (choices : List Choice) (states : List State) → IsVerdict c (Accepted states choices) → length choices ≡ length c.flow.links
 each_choice c choices states v = ap length v.choices_are ∙ length-map-range_with_len (choice_at c) 0 (length c.flow.links)

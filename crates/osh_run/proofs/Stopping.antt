@@ -1,5 +1,5 @@
 -- How a run goes on from stage to stage, and how a stage stops it.
-use Rattle.std.proofs.Common.{◌≡◌, inl, inr, ℕ, false, List, [], refl, Some, None}
+use Rattle.std.proofs.Common.{◌≡◌, inl, inr, ℕ, List, [], refl, Some, None}
 use Rattle.ds_port.specs.FileMap.{FileMap, file_at}
 use Rattle.flow_graph.specs.Charts.{Chart}
 use Rattle.flow_graph.specs.declared.flow.Flow.{Flow}
@@ -46,5 +46,5 @@ prepared_comes files name config c nodes p end n = texts_come files name config 
 pub missing_stops : (files : FileMap) (name config : List ℕ) (c : Chart) (nodes : ℕ) (missing : List ℕ) → IsPrepared files name config c nodes → first_missing files c.flow.ops ≡ Some missing → Halts (RunsFile files name config) (answer.Absent missing)
 missing_stops files name config c nodes missing p h = prepared_comes files name config c nodes p (absent missing) (inl (missing, h, refl))
 
-pub verdict_comes : (files : FileMap) (name config : List ℕ) (c : Chart) (nodes : ℕ) (v : Verdict) → IsPrepared files name config c nodes → first_missing files c.flow.ops ≡ None → IsVerdict false c v → (end : End) → AcceptedRuns files c nodes v end → RunsFile files name config end
+pub verdict_comes : (files : FileMap) (name config : List ℕ) (c : Chart) (nodes : ℕ) (v : Verdict) → IsPrepared files name config c nodes → first_missing files c.flow.ops ≡ None → IsVerdict c v → (end : End) → AcceptedRuns files c nodes v end → RunsFile files name config end
 verdict_comes files name config c nodes v p there is end e = prepared_comes files name config c nodes p end (inr (there, (v, is, e)))

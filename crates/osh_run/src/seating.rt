@@ -1,6 +1,6 @@
 //! A run of a flow that was accepted.
 
-ghost use Rattle.std.specs.Prelude.{◌≡◌, ◌<◌, ◌⊎◌, List, false, None, IsTrue, IfOk, IfErr};
+ghost use Rattle.std.specs.Prelude.{◌≡◌, ◌<◌, ◌⊎◌, List, None, IsTrue, IfOk, IfErr};
 ghost use Rattle.ds_port.specs.Causes.{Rose};
 ghost use Rattle.flow_graph.specs.declared.state.State.{State};
 ghost use Rattle.flow_rules.specs.declared.verdict.Verdict.TheVariants.{Accepted};
@@ -23,7 +23,7 @@ use std::alloc::Global;
 
 /// The number of players, where degrees and players suit so many nodes.
 fn seated(shaped: &Shaped, choices: &[Choice], nodes: u32) -> Result<u32, Answer>
-    requires { (states : List State) × IsVerdict false shaped.now (Accepted states choices.now) }
+    requires { (states : List State) × IsVerdict shaped.now (Accepted states choices.now) }
     ensures seats { IfOk result (Seats shaped.now choices.now nodes) }
     ensures stops { IfErr result (Halts (SeatsOn shaped.now choices.now nodes (λ _. ⊥))) }
     ensures quiet { IfErr result (λ answer. answer ≡ Answer.Device → ⊥) }
@@ -64,7 +64,7 @@ pub fn run_seated<F: Files, O: Sink>(
 ) -> Answer
     requires built { IsBuiltShape shaped.now }
     requires some { 0 < nodes }
-    requires verdict { IsVerdict false shaped.now verdict.now }
+    requires verdict { IsVerdict shaped.now verdict.now }
     requires accepted { (states : List State) × (verdict.now ≡ Accepted states choices.now) }
     ensures serves { IsTrue F.tells → first_missing (F.holds files.old) shaped.now.flow.ops ≡ None → Serves (AcceptedRuns (F.holds files.old) shaped.now nodes verdict.now) (F.holds files.old) (F.holds files.new) O.tells (O.held out.old) (O.held out.new) (Rose (F.faults files.old) (F.faults files.new)) (Rose (O.faults out.old) (O.faults out.new)) result }
     ensures device { result ≡ Answer.Device → Rose (F.faults files.old) (F.faults files.new) ⊎ Rose (O.faults out.old) (O.faults out.new) }

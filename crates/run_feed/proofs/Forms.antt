@@ -14,8 +14,8 @@ use Rattle.op_shape.specs.Options.{first_fields, option_causes}
 use Rattle.flow_shape.specs.Refusals.{IsShapeOf, fields_at, inputs_at}
 use Rattle.flow_shape.proofs.Causing.{all_at}
 use Rattle.flow_shape.proofs.Holding.{first_of}
-use Rattle.flow_sound.specs.Kinds.{IsExport}
-use Rattle.osh_ends.specs.FlowFiles.{fields_of, form, input_of}
+use Rattle.flow_rules.specs.Exports.{IsExport, input_of}
+use Rattle.osh_ends.specs.FlowFiles.{fields_of, form}
 use Rattle.osh_ends.proofs.Forms.{FormSuits, form_fits, options_sound}
 use Rattle.osh_sound.specs.Sound.{AreWidths, FormStands, KeepsForms}
 use Rattle.run_feed.specs.Sources.{CanRead}

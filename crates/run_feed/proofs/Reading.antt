@@ -24,7 +24,8 @@ use Rattle.flow_score.proofs.Ranges.{range_more}
 use Rattle.flow_sound.specs.Tallies.{faults_read, if_import}
 use Rattle.flow_sound.proofs.Members.{below_range}
 use Rattle.osh_ends.specs.Built.{is_built_op}
-use Rattle.osh_ends.specs.FlowFiles.{IsOp, fields_of, form, input_of}
+use Rattle.flow_rules.specs.Exports.{input_of}
+use Rattle.osh_ends.specs.FlowFiles.{IsOp, fields_of, form}
 use Rattle.run_feed.specs.Sources.{AllSuit, ReadTo, ReadsFile, RowsSuit, rows_read}
 
 pub at_item : (ops : List OpSpec) (i : ℕ) (x : OpSpec) → i < length ops → x ≡ get_or ops i x → x ≡ get_or ops i no_op

@@ -32,7 +32,8 @@ use Rattle.flow_sound.proofs.Fitting.{given_there}
 use Rattle.flow_sound.proofs.Order.{leaves_it}
 use Rattle.list_run.specs.Runnable.{OpIs}
 use Rattle.osh_ends.specs.Built.{is_built, is_built_op}
-use Rattle.osh_ends.specs.FlowFiles.{IsOp, fields_of, form, input_of}
+use Rattle.flow_rules.specs.Exports.{input_of}
+use Rattle.osh_ends.specs.FlowFiles.{IsOp, fields_of, form}
 use Rattle.run_feed.specs.Sources.{AllSuit, CanFeed, ReadTo, RowsSuit, Sourced, on_output, rows_on, rows_read}
 use Rattle.run_feed.proofs.Ready.{built_at}
 use Rattle.run_feed.proofs.Rows.{line_fits}

@@ -1,6 +1,6 @@
 //! The lists of a run.
 
-ghost use Rattle.std.specs.Prelude.{◌≡◌, ℕ, List, false, IsTrue, IfOk, Err, None};
+ghost use Rattle.std.specs.Prelude.{◌≡◌, ℕ, List, IsTrue, IfOk, Err, None};
 ghost use Rattle.ds_port.specs.Causes.{HasCause};
 ghost use Rattle.flow_graph.specs.declared.state.State.{State};
 ghost use Rattle.flow_rules.specs.declared.verdict.Verdict.TheVariants.{Accepted};
@@ -27,7 +27,7 @@ pub fn feed<F: Files>(
     tally: &mut Tally,
 ) -> Result<Ran, FeedFault>
     requires { IsReady shaped.now choices.now nodes }
-    ensures fed { IsTrue F.tells → IfOk result (λ ran. (states : List State) → IsVerdict false shaped.now (Accepted states choices.now) → Fed (F.holds files.old) shaped.now states choices.now ran tally.old tally.new) }
+    ensures fed { IsTrue F.tells → IfOk result (λ ran. (states : List State) → IsVerdict shaped.now (Accepted states choices.now) → Fed (F.holds files.old) shaped.now states choices.now ran tally.old tally.new) }
     ensures fit { IfOk result (λ ran. SinksFit shaped.now ran) }
     ensures absent { IsTrue F.tells → first_missing (F.holds files.old) shaped.now.flow.ops ≡ None → (gone : List ℕ) → result ≡ Err (FeedFault.Absent gone) → ⊥ }
     ensures same { F.holds files.new ≡ F.holds files.old }

@@ -1,5 +1,5 @@
 -- The ends of runs.
-use Rattle.std.proofs.Common.{◌≡◌, ◌≢◌, inl, inr, ℕ, Bool, false, List, [], ◌∷◌, ◌++◌, length, refl, sym, ap, subst, ◌∙◌, append-nil, arith, flat_map, IsPermutation}
+use Rattle.std.proofs.Common.{◌≡◌, ◌≢◌, inl, inr, ℕ, Bool, List, [], ◌∷◌, ◌++◌, length, refl, sym, ap, subst, ◌∙◌, append-nil, arith, flat_map, IsPermutation}
 use Rattle.std.specs.Prelude.{◌≤◌, Option, Some, None, Result, Ok, Err, IsErr, true}
 use Rattle.std.specs.Result.{OnErr, is_err}
 use Rattle.std.specs.List.{Contains}
@@ -11,40 +11,34 @@ use Rattle.op_base.specs.Emits.{counted}
 use Rattle.op_base.specs.Faults.{fault_cmp}
 use Rattle.op_base.specs.Lists.{joined}
 use Rattle.ds_port.specs.Causes.{Rose}
-use Rattle.ds_port.specs.FileMap.{FileMap, with_file}
+use Rattle.ds_port.specs.FileMap.{FileMap}
 use Rattle.flow_files.specs.declared.tally.Tally.{Tally}
 use Rattle.flow_files.specs.Tallies.{Grows, IsLeast, IsLeastOf, Tallies}
 use Rattle.flow_graph.specs.declared.route.Choice.{Choice}
 use Rattle.flow_graph.specs.declared.state.State.{State}
-use Rattle.flow_graph.specs.Charts.{Chart, op_at}
+use Rattle.flow_graph.specs.Charts.{Chart}
 use Rattle.flow_graph.specs.Runs.{meant_faults}
-use Rattle.flow_rules.specs.Verdicts.{nodes_of}
-use Rattle.flow_outputs.specs.Outputs as outputs
-use Rattle.flow_outputs.specs.Outputs.{MakesSome}
+use Rattle.flow_rules.specs.Verdicts.{nodes_of, infer_regains}
+use Rattle.flow_outputs.specs.Outputs.{MakesSome, NamedFile, with_files}
 use Rattle.flow_shape.specs.Refusals.{all_ops}
 use Rattle.flow_sound.specs.Tallies.{faults_before, faults_written, tallied}
 use Rattle.flow_sound.proofs.Members.{all_permuted}
 use Rattle.flow_sound.proofs.Tallying.{run_tallied}
 use Rattle.list_run.specs.declared.ran.Ran.{Ran}
-use Rattle.osh_ends.specs.Ends.{Finishes, MeetsGrades, NamedFile, RunsTo, done, faulty, files_of}
-use Rattle.osh_ends.specs.Leaves.{Leaves, with_files}
+use Rattle.osh_ends.specs.Ends.{Finishes, MeetsGrades, RunsTo, done, faulty, files_of}
+use Rattle.osh_ends.specs.Leaves.{Leaves}
 use Rattle.osh_ends.specs.Reports.{fault_report, report}
 use Rattle.run_finish.specs.Endings.{Delivers, Refuses}
 use Rattle.run_finish.specs.Finished.{Ends, IsRun}
 use Rattle.run_finish.specs.Written.{ComeAt}
 use Rattle.run_finish.specs.declared.ending.Ending.{Ending}
 use Rattle.run_finish.specs.declared.ending.Ending.TheVariants as ending
-use Rattle.run_finish.proofs.Exporting.{is_export}
 use Rattle.run_finish.proofs.Reporting.{faults_cut}
 
 -- ---- what is made
 
-same_files : (files : FileMap) (fs : List NamedFile) → outputs.with_files files fs ≡ with_files files fs
-same_files files [] = refl
-same_files files (f ∷ fs) = same_files (with_file files (f.0) (f.1)) fs
-
 pub some_left : (old new : FileMap) (all : List NamedFile) (tells : Bool) (out : List ℕ) → MakesSome old new all → (made : List NamedFile) × (failed : NamedFile) × (behind : List NamedFile) × (all ≡ made ++ failed ∷ behind) × Leaves (with_files old made) new tells out out []
-some_left old new all tells out m = (m.made, m.failed, m.behind, m.all_are, record { files_are = m.files ∙ same_files old m.made; out = λ t. sym (append-nil out) })
+some_left old new all tells out m = (m.made, m.failed, m.behind, m.all_are, record { files_are = m.files; out = λ t. sym (append-nil out) })
 
 pub on_err : {A B : Type 0} (r : Result A B) (P : Type 0) → true ≡ is_err r → OnErr r P → P
 on_err (Ok x) P e h = absurd (cc)
@@ -74,14 +68,14 @@ pub tallies_permuted : (xs ys : List Fault) (t : Tally) → IsPermutation xs ys 
 tallies_permuted xs ys t p h = record { number = h.number ∙ ap (counted 0) (sym (length_permutation xs ys p)); least = least_permuted xs ys t.least p h.least }
 
 pub come : (files : FileMap) (c : Chart) (states : List State) (choices : List Choice) (ran : Ran) (tally : Tally) (r : IsRun files c states choices ran tally) → ComeAt c ran.sinks r.run.got
-come files c states choices ran tally r o b e = r.sinks o b (is_export (op_at c o).kind e)
+come files c states choices ran tally r o b e = r.sinks o b e
 
 -- all faults of the meaning are tallied, when those of the exports were
 pub meant_tallied : (files : FileMap) (c : Chart) (states : List State) (choices : List Choice) (ran : Ran) (old new : Tally) (r : IsRun files c states choices ran old)
     → Grows old new (flat_map (faults_written c r.ops (λ l. joined (r.run.got l))) (all_ops c)) → Tallies (meant_faults r.whole (nodes_of c r.ops)) new
 meant_tallied files c states choices ran old new r g =
     tallies_permuted (tallied c r.ops (λ l. joined (r.run.got l))) (meant_faults r.whole (nodes_of c r.ops)) new
-    (run_tallied false c.flow [] c states choices r.ops r.whole r.run r.accepted)
+    (run_tallied infer_regains c.flow [] c states choices r.ops r.whole r.run r.accepted)
     (g (faults_before c r.ops (λ l. joined (r.run.got l))) r.tally)
 
 done_end : (c : Chart) (states : List State) (choices : List Choice) (nodes : ℕ) (whole : ℕ → List Row) (parts : ℕ → List (List Row)) (fs : List Fault) → fs ≡ [] → MeetsGrades c states whole parts

@@ -19,8 +19,9 @@ use Rattle.flow_shape.specs.Refusals.{all_ops}
 use Rattle.flow_sound.specs.Tallies.{faults_written, if_export}
 use Rattle.flow_sound.proofs.Members.{all_of, below_range}
 use Rattle.ds_port.specs.FileMap.{FileMap}
-use Rattle.osh_ends.specs.Ends.{IsExport, file_of, files_of}
-use Rattle.osh_ends.specs.FlowFiles.{IsOp, input_of}
+use Rattle.flow_rules.specs.Exports.{IsExport, input_of}
+use Rattle.osh_ends.specs.Ends.{file_of, files_of}
+use Rattle.osh_ends.specs.FlowFiles.{IsOp}
 use Rattle.run_finish.specs.Written.{AreOps, ComeAt, faults_at, faults_found, file_written, sink_at}
 
 joined_more : {X : Type 0} (ls : List (List X)) (i : ℕ) (xs : List X) → i < length ls → xs ≡ get_or ls i xs → joined (take (i + 1) ls) ≡ joined (take i ls) ++ xs

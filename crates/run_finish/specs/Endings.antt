@@ -1,8 +1,8 @@
 -- How the end of a run leaves files and out.
 use Rattle.std.specs.Prelude.{◌≡◌, ◌++◌, ◌⊎◌, ℕ, Bool, List, [], ◌∷◌, take}
 use Rattle.ds_port.specs.FileMap.{FileMap}
-use Rattle.osh_ends.specs.Ends.{NamedFile}
-use Rattle.osh_ends.specs.Leaves.{Leaves, with_files}
+use Rattle.flow_outputs.specs.Outputs.{NamedFile, with_files}
+use Rattle.osh_ends.specs.Leaves.{Leaves}
 use Rattle.run_finish.specs.declared.ending.Ending.{Ending}
 use Rattle.run_finish.specs.declared.ending.Ending.TheVariants as ending
 

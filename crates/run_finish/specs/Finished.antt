@@ -1,5 +1,5 @@
 -- The end of a run whose lists are done.
-use Rattle.std.specs.Prelude.{◌≡◌, ◌<◌, ℕ, Bool, false, List, [], length}
+use Rattle.std.specs.Prelude.{◌≡◌, ◌<◌, ℕ, Bool, List, [], length}
 use Rattle.ds_port.specs.FileMap.{FileMap}
 use Rattle.op_base.specs.Columns.{Row}
 use Rattle.op_base.specs.Lists.{joined}
@@ -10,13 +10,15 @@ use Rattle.flow_graph.specs.declared.state.State.{State}
 use Rattle.flow_graph.specs.Charts.{Chart, op_at}
 use Rattle.flow_graph.specs.Operators.{Op}
 use Rattle.flow_graph.specs.Runs.{Lists}
-use Rattle.flow_sound.specs.Kinds.{IsExport, first_into}
+use Rattle.flow_outputs.specs.Outputs.{NamedFile, with_files}
+use Rattle.flow_rules.specs.Exports.{IsExport, input_of}
+use Rattle.flow_rules.specs.Verdicts.{infer_regains}
 use Rattle.flow_sound.specs.Promise.{AcceptedRun}
 use Rattle.flow_sound.specs.Tallies.{faults_before}
 use Rattle.list_run.specs.declared.ran.Ran.{Ran}
-use Rattle.osh_ends.specs.Ends.{MeetsGrades, NamedFile, RunsTo, done, faulty}
+use Rattle.osh_ends.specs.Ends.{MeetsGrades, RunsTo, done, faulty}
 use Rattle.osh_ends.specs.FlowFiles.{IsMeaning}
-use Rattle.osh_ends.specs.Leaves.{Broke, Leaves, with_files}
+use Rattle.osh_ends.specs.Leaves.{Broke, Leaves}
 use Rattle.run_finish.specs.declared.ending.Ending.{Ending}
 use Rattle.run_finish.specs.declared.ending.Ending.TheVariants as ending
 use Rattle.run_finish.specs.Reported.{AreCounts}
@@ -28,9 +30,9 @@ pub record IsRun (files : FileMap) (c : Chart) (states : List State) (choices : 
   pub whole : ℕ → List Row
   pub run : Lists
   pub meaning : IsMeaning files c ops whole
-  pub accepted : AcceptedRun false c.flow [] c states choices ops whole run
+  pub accepted : AcceptedRun infer_regains c.flow [] c states choices ops whole run
   pub counts : AreCounts c whole ran.counts
-  pub sinks : (o : ℕ) → o < length c.flow.ops → IsExport (op_at c o).kind → sink_at ran.sinks o ≡ run.got (first_into c o)
+  pub sinks : (o : ℕ) → o < length c.flow.ops → IsExport (op_at c o).kind → sink_at ran.sinks o ≡ run.got (input_of c o)
   pub grades : MeetsGrades c states whole run.got
   pub tally : Tallies (faults_before c ops (λ l. joined (run.got l))) found
 

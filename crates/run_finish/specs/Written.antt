@@ -12,8 +12,10 @@ use Rattle.flow_graph.specs.Operators.{Op}
 use Rattle.flow_graph.specs.declared.op_kind.OpKind.{OpKind}
 use Rattle.flow_graph.specs.declared.op_kind.OpKind.TheVariants as kind
 use Rattle.ds_port.specs.FileMap.{FileMap}
-use Rattle.osh_ends.specs.Ends.{IsExport, NamedFile, file_of}
-use Rattle.osh_ends.specs.FlowFiles.{IsOp, form, input_of, fields_of}
+use Rattle.flow_outputs.specs.Outputs.{NamedFile}
+use Rattle.flow_rules.specs.Exports.{IsExport, input_of}
+use Rattle.osh_ends.specs.Ends.{file_of}
+use Rattle.osh_ends.specs.FlowFiles.{IsOp, form, fields_of}
 
 -- the form suits the columns of the input, and the rows fit them
 abbrev pub CanWrite : Chart → ℕ → List (List Row) → OpKind → Type 0

@@ -13,7 +13,7 @@ use Rattle.flow_graph.specs.FlowShape.{IsShape}
 use Rattle.flow_rules.specs.declared.verdict.Verdict.{Verdict}
 use Rattle.flow_rules.specs.declared.verdict.Verdict.TheVariants.{Accepted, Refused}
 use Rattle.flow_derive.specs.LinkStates.{choice_at}
-use Rattle.flow_rules.specs.Verdicts.{IsVerdict}
+use Rattle.flow_rules.specs.Verdicts.{IsVerdictBy}
 use Rattle.flow_score.specs.VerdictText.{IsOf}
 use Rattle.flow_sound.specs.Tallies.{faults_before}
 use Rattle.list_run.specs.declared.ran.Ran.{Ran}
@@ -28,7 +28,7 @@ use Rattle.run_finish.specs.Written.{CanWriteAll}
 use Rattle.run_finish.proofs.Closing.{rose_later, tallies_permuted}
 use Rattle.run_finish.proofs.Exporting.{can_write_all}
 
-pub is_of : (regains : Bool) (c : Chart) (v : Verdict) → IsVerdict regains c v → IsOf c v
+pub is_of : (regains : Bool) (c : Chart) (v : Verdict) → IsVerdictBy regains c v → IsOf c v
 is_of regains c (Accepted states choices) h = h.states_are.each
 is_of regains c (Refused link need have) h = h.in_range
 

@@ -1,7 +1,7 @@
 //! A run of a flow that was accepted, from its files to its end.
 #![tactic(auto)]
 
-ghost use Rattle.std.specs.Prelude.{◌≡◌, ◌≤◌, ◌⊎◌, List, false, IsTrue, IfOk, IfErr, Ok, None};
+ghost use Rattle.std.specs.Prelude.{◌≡◌, ◌≤◌, ◌⊎◌, List, IsTrue, IfOk, IfErr, Ok, None};
 ghost use Rattle.ds_port.specs.Causes.{Rose};
 ghost use Rattle.flow_graph.specs.declared.state.State.{State};
 ghost use Rattle.flow_rules.specs.declared.verdict.Verdict.TheVariants.{Accepted};
@@ -35,7 +35,7 @@ pub fn run_accepted<F: Files, O: Sink>(
     players: u32,
 ) -> Result<Ending, Name>
     requires ready { IsReady shaped.now choices.now nodes }
-    requires verdict { IsVerdict false shaped.now verdict.now }
+    requires verdict { IsVerdict shaped.now verdict.now }
     requires seats { Seats shaped.now choices.now nodes players }
     ensures ends { IsTrue F.tells → (states : List State) → verdict.now ≡ Accepted states choices.now → IfOk result (Ends (F.holds files.old) (F.holds files.new) shaped.now nodes states choices.now O.tells (O.held out.old) (O.held out.new) (Rose (F.faults files.old) (F.faults files.new)) (Rose (O.faults out.old) (O.faults out.new))) }
     ensures there { IsTrue F.tells → first_missing (F.holds files.old) shaped.now.flow.ops ≡ None → IfErr result (λ gone. ⊥) }

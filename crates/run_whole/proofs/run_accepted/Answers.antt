@@ -1,4 +1,4 @@
-use Rattle.std.proofs.Common.{false, subst, sym}
+use Rattle.std.proofs.Common.{subst, sym}
 use Rattle.ds_port.specs.Causes.{Rose}
 use Rattle.flow_rules.specs.declared.verdict.Verdict.TheVariants.{Accepted}
 use Rattle.flow_rules.specs.Verdicts.{IsVerdict}
@@ -15,7 +15,7 @@ returns-in-Ok-clause-ends g c = λ tells states e.
     let mid = g.F.Files.holds c.feed.new.files in
     let shaped = c.args.shaped.now in
     let choices = c.args.choices.now in
-    let verdict : IsVerdict false shaped (Accepted states choices) = subst (IsVerdict false shaped) e c.requires.verdict in
+    let verdict : IsVerdict shaped (Accepted states choices) = subst (IsVerdict shaped) e c.requires.verdict in
     let run = is_run old shaped states choices c.in-Ok.ran c.new-tally.result c.feed.new.tally c.new-tally.ensures (c.in-Ok.ensures.fed tells states verdict) in
     ends_from old mid (g.F.Files.holds c.finish_run.new.files) shaped c.args.nodes states choices g.O.Sink.tells (g.O.Sink.held c.args.out.now) (g.O.Sink.held c.finish_run.new.out)
     (g.F.Files.faults c.args.files.now) (g.F.Files.faults c.feed.new.files) (g.F.Files.faults c.finish_run.new.files) (Rose (g.O.Sink.faults c.args.out.now) (g.O.Sink.faults c.finish_run.new.out)) c.finish_run.result

@@ -1,4 +1,4 @@
-use Rattle.std.proofs.Common.{false, refl, sym, subst}
+use Rattle.std.proofs.Common.{refl, sym, subst}
 use Rattle.ds_port.specs.Causes.{Rose}
 use Rattle.flow_rules.specs.Verdicts.{IsVerdict}
 use Rattle.osh_call.specs.Answers.{Serves}
@@ -10,7 +10,7 @@ use Rattle.osh_run.proofs.seating.run_seated.Goals as goal
 pub run_accepted-requires-clause-ready : goal.run_accepted-requires-clause-ready
 run_accepted-requires-clause-ready g c κs within =
     is_ready c.args.shaped.now c.args.choices.now c.args.nodes c.in-Ok.players c.requires.accepted.0 c.flows_can_be_shaped.ensures.marks c.flows_can_be_shaped.ensures.forms c.requires.built c.requires.some
-    (subst (IsVerdict false c.args.shaped.now) c.requires.accepted.1 c.requires.verdict) c.in-Ok.ensures.seats
+    (subst (IsVerdict c.args.shaped.now) c.requires.accepted.1 c.requires.verdict) c.in-Ok.ensures.seats
 
 pub returns-in-Err-clause-serves : goal.returns-in-Err-clause-serves
 returns-in-Err-clause-serves g c = λ tells there.

@@ -1,0 +1,10 @@
+//! Operators of any number of inputs, run over whole lists.
+#![tactic(auto)]
+
+mod input;
+mod run;
+
+pub use run::run_ports;
+
+#[cfg(test)]
+mod tests;
