@@ -17,7 +17,6 @@ use Rattle.flow_graph.specs.FlowShape.{FormPorts, IsShape}
 use Rattle.flow_graph.specs.Forms.{form}
 use Rattle.flow_graph.specs.Operators.{Op, by_row, faults}
 use Rattle.flow_graph.specs.Runs.{InsertedFrom, Lists, Node, Out}
-use Rattle.flow_rules.specs.Exports.{IsExport, input_of}
 use Rattle.flow_rules.specs.Needs.{missed}
 use Rattle.flow_rules.specs.Soundness.{Accepted as MissesNothing, Keeps, Sound}
 use Rattle.flow_derive.specs.LinkStates.{state_at}
@@ -28,6 +27,7 @@ use Rattle.flow_rules.proofs.Ends.{sink_meets}
 use Rattle.flow_rules.proofs.FlowAll.{faults_all, flow_all}
 use Rattle.flow_rules.proofs.LawProofs.{sinks_meet}
 use Rattle.flow_rules.proofs.VerdictLaws.{accepted_derives, accepted_inserts, accepted_meets}
+use Rattle.flow_rules.specs.Exports.{IsExport, input_of}
 use Rattle.flow_sound.specs.Kinds.{IsOfKind, widths_into}
 use Rattle.flow_sound.specs.Promise.{AcceptedRun, AcceptedRunsKeep, ShapedFlow, sort_at}
 use Rattle.flow_sound.proofs.ByRow.{link_there, one_link}

@@ -21,9 +21,9 @@ use Rattle.flow_graph.specs.Operators.{Op, by_row, faults, import}
 use Rattle.flow_graph.specs.Runs.{FitsDegree, Lists, Node, Runs, faults_on, meant_faults, run_faults, slice}
 use Rattle.flow_graph.proofs.StateLaws.{each_part}
 use Rattle.flow_ops.specs.Kept.{if_between}
-use Rattle.flow_rules.specs.Exports.{IsExport, input_of}
 use Rattle.flow_rules.specs.Verdicts.{node_at, nodes_of}
 use Rattle.flow_shape.specs.Refusals.{all_ops}
+use Rattle.flow_rules.specs.Exports.{IsExport, input_of}
 use Rattle.flow_sound.specs.Kinds.{IsOfKind, widths_into}
 use Rattle.flow_sound.specs.Promise.{sort_at}
 use Rattle.flow_sound.specs.Tallies.{ExportIsTallied, RunIsTallied, faults_before, faults_between, faults_read, faults_written, if_export, if_import, tallied}

@@ -20,10 +20,10 @@ use Rattle.flow_graph.specs.Operators.{Op}
 use Rattle.flow_graph.specs.Runs.{Lists, Means}
 use Rattle.flow_ops.specs.Keyed.{aggs_of}
 use Rattle.flow_ops.specs.Kept.{GivesFields, SumsFit}
-use Rattle.flow_rules.specs.Exports.{IsExport, input_of}
 use Rattle.flow_rules.specs.Verdicts.{nodes_of}
 use Rattle.op_shape.specs.Options.{IsKeyed}
 use Rattle.flow_shape.specs.Refusals.{IsShapeOf, fields_at}
+use Rattle.flow_rules.specs.Exports.{IsExport, input_of}
 use Rattle.flow_sound.specs.Kinds.{IsOfKind, widths_into}
 use Rattle.flow_sound.specs.Promise.{AcceptedRun, ShapedFlow}
 

@@ -53,4 +53,3 @@ widths_into c o = map (width_at c) (links_into c o)
 
 abbrev pub AreOfKinds : Chart → (ℕ → Op) → Type 0
 AreOfKinds c ops = (o : ℕ) → o < length c.flow.ops → IsOfKind o (op_at c o).kind (parts_of c o) (widths_into c o) (ops o)
-

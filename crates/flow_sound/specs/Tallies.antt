@@ -15,9 +15,9 @@ use Rattle.flow_graph.specs.Charts.{Chart, op_at}
 use Rattle.flow_graph.specs.Operators.{Op, faults}
 use Rattle.flow_graph.specs.Runs.{Lists, meant_faults}
 use Rattle.flow_ops.specs.Kept.{if_between}
-use Rattle.flow_rules.specs.Exports.{IsExport, input_of}
 use Rattle.flow_rules.specs.Verdicts.{nodes_of}
 use Rattle.flow_shape.specs.Refusals.{all_ops}
+use Rattle.flow_rules.specs.Exports.{IsExport, input_of}
 use Rattle.flow_sound.specs.Promise.{AcceptedRun}
 
 -- what is found, where an operator is an import, or an export

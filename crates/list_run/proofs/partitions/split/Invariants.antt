@@ -1,6 +1,6 @@
 use Rattle.std.proofs.Common.{◌≡◌, ◌<◌, ◌++◌, [], ℕ, length, get_or}
 use Rattle.list_run.specs.Worked.{sent_to}
-use Rattle.list_run.proofs.by_row.split.Given as goal
+use Rattle.list_run.proofs.partitions.split.Given as goal
 
 abbrev pub invariant-loop-one : goal.invariant-loop-one
 invariant-loop-one l = record {

@@ -4,7 +4,7 @@ use Rattle.std.proofs.lemmas.List.{length-set}
 use Rattle.op_base.specs.declared.emit.Sent.{Sent}
 use Rattle.list_run.proofs.Ended.{is_next}
 use Rattle.list_run.proofs.Splitting.{row_dealt}
-use Rattle.list_run.proofs.by_row.split.Goals as goal
+use Rattle.list_run.proofs.partitions.split.Goals as goal
 
 pub loop-one-preserved : goal.loop-one-preserved
 loop-one-preserved c =
