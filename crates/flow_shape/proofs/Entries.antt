@@ -1,47 +1,50 @@
 -- The inputs of an operator, where a flow's links are gone through from the first on.
-use Rattle.std.proofs.Common.{◌≡◌, ◌<◌, ◌≤◌, ◌+◌, ◌==◌, ◌∷◌, [], ℕ, List, Option, Some, None, cond, refl, sym, ap, ◌∙◌, arith, length, get_or, map, drop, position}
-use Rattle.std.specs.List.{position_or_len, slice_get}
-use Rattle.std.proofs.lemmas.List.{drop_more, drop_all}
+use Rattle.std.proofs.Common.{◌≡◌, ◌<◌, ◌≤◌, ◌+◌, ◌==◌, ◌++◌, ◌∷◌, [], ℕ, suc, List, Bool, true, false, Option, Some, None, cond, refl, sym, ap, ◌∙◌, arith, length, get_or, map, drop}
+use Rattle.std.specs.List.{filter, range_with_len}
+use Rattle.std.proofs.lemmas.List.{drop_more, drop_all, get_or_read, map-append}
+use Rattle.std.proofs.lemmas.List.Elements.{filter-append}
 use Rattle.ds_schema.specs.declared.schema.Field.{Field}
 use Rattle.flow_graph.specs.Charts.{no_link, links_into}
 use Rattle.flow_graph.specs.declared.flow.Flow.{Flow}
 use Rattle.flow_graph.specs.declared.flow.LinkSpec.{LinkSpec}
 use Rattle.op_shape.specs.declared.fault.ShapeWhy.{ShapeWhy}
 use Rattle.op_shape.specs.Causes.{first_cause}
-use Rattle.op_shape.specs.Options.{fields_in, first_fields}
 use Rattle.flow_shape.specs.Refusals.{chart_of, inputs_at, input_cause, fields_at}
 use Rattle.op_shape.proofs.Firsts.{or_else}
-use Rattle.flow_shape.proofs.Firsts.{first_next, first_number, no_number}
+use Rattle.flow_shape.proofs.Firsts.{first_next}
 use Rattle.flow_shape.proofs.Numbers.{numbers, numbers_of}
-use Rattle.op_shape.proofs.Places.{place_some, place_none}
+use Rattle.op_shape.proofs.Keeping.{range_more}
 
 pub into_numbers : (flow : Flow) (schemas : List (List Field)) (o : ℕ) → links_into (chart_of flow schemas) o ≡ numbers (λ (k : LinkSpec). k.to == o) 0 flow.links
 into_numbers flow schemas o = numbers_of (λ (k : LinkSpec). k.to == o) flow.links
 
--- the fields of input 0, by the place of the first link into the operator
-pub first_at : (flow : Flow) (schemas : List (List Field)) (o k : ℕ) → position (λ (l : LinkSpec). l.to == o) flow.links ≡ Some k → k < length flow.links
-    → slice_get (inputs_at (chart_of flow schemas) o) 0 ≡ Some (fields_at (chart_of flow schemas) k)
-first_at flow schemas o k e h =
-    let p = λ (l : LinkSpec). l.to == o in
+-- the fields of the inputs among the links below k
+abbrev pub inputs_below : Flow → List (List Field) → ℕ → ℕ → List (List Field)
+inputs_below flow schemas o k = map (fields_at (chart_of flow schemas)) (filter (λ l. (get_or flow.links l no_link).to == o) (range_with_len 0 k))
+
+below_more : (flow : Flow) (schemas : List (List Field)) (o k : ℕ) (b : Bool) → ((get_or flow.links k no_link).to == o) ≡ b → inputs_below flow schemas o (k + 1) ≡ inputs_below flow schemas o k ++ cond b (fields_at (chart_of flow schemas) k ∷ []) []
+below_more flow schemas o k b e =
+    let p = λ (l : ℕ). (get_or flow.links l no_link).to == o in
     let f = fields_at (chart_of flow schemas) in
-    let same : k ≡ position_or_len p flow.links = place_some p flow.links k e in
-    let within : position_or_len p flow.links < length flow.links = omega (arith, same, h) in
-    let z : 0 + position_or_len p flow.links ≡ k = omega (arith, same) in
-    ap (λ ns. slice_get (map f ns) 0) (into_numbers flow schemas o) ∙ (first_number p f 0 flow.links within ∙ ap (λ n. let r : Option (List Field) = Some (f n) in r) z)
+    let up : k + 1 ≡ suc k = omega arith in
+    ap (inputs_below flow schemas o) up ∙ (ap (λ ns. map f (filter p ns)) (range_more 0 k k (omega arith)) ∙ (ap (map f) (filter-append p (range_with_len 0 k) (k ∷ []))
+    ∙ (map-append f (filter p (range_with_len 0 k)) (filter p (k ∷ [])) ∙ (ap (λ x. inputs_below flow schemas o k ++ map f (cond x (k ∷ []) [])) e ∙ ap (λ fs. inputs_below flow schemas o k ++ fs) (last b)))))
+  where
+    last : (x : Bool) → map (fields_at (chart_of flow schemas)) (cond x (k ∷ []) []) ≡ cond x (fields_at (chart_of flow schemas) k ∷ []) []
+    last true = refl
+    last false = refl
 
-pub none_at : (flow : Flow) (schemas : List (List Field)) (o : ℕ) → position (λ (l : LinkSpec). l.to == o) flow.links ≡ None → slice_get (inputs_at (chart_of flow schemas) o) 0 ≡ None
-none_at flow schemas o e =
-    let p = λ (l : LinkSpec). l.to == o in
-    let f = fields_at (chart_of flow schemas) in
-    let len = place_none p flow.links e in
-    ap (λ ns. slice_get (map f ns) 0) (into_numbers flow schemas o) ∙ no_number p f 0 flow.links (omega (arith, len))
-
-heads : (ins : List (List Field)) → fields_in (slice_get ins 0) ≡ first_fields ins
-heads [] = refl
-heads (fields ∷ ins) = refl
-
-pub first_is : (flow : Flow) (schemas : List (List Field)) (o : ℕ) (first : Option (List Field)) → first ≡ slice_get (inputs_at (chart_of flow schemas) o) 0 → fields_in first ≡ first_fields (inputs_at (chart_of flow schemas) o)
-first_is flow schemas o first e = ap fields_in e ∙ heads (inputs_at (chart_of flow schemas) o)
+-- one link more, whose fields are an input's where it leads into the operator
+pub below_next : (flow : Flow) (schemas : List (List Field)) (o k : ℕ) (b : Bool) (link : LinkSpec) (fields : List Field) (old new : List (List Field)) → k < length flow.links → length schemas ≡ length flow.links
+    → link ≡ get_or flow.links k link → (link.to == o) ≡ b → (b ≡ true → fields ≡ get_or schemas k fields) → old ≡ inputs_below flow schemas o k → new ≡ old ++ cond b (fields ∷ []) [] → new ≡ inputs_below flow schemas o (k + 1)
+below_next flow schemas o k b link fields old new h len at e there inv add =
+    let here : link ≡ get_or flow.links k no_link = get_or_read flow.links k link h at no_link in
+    let leads : ((get_or flow.links k no_link).to == o) ≡ b = ap (λ (l : LinkSpec). l.to == o) (sym here) ∙ e in
+    add ∙ (ap (λ fs. fs ++ cond b (fields ∷ []) []) inv ∙ (ap (λ fs. inputs_below flow schemas o k ++ fs) (same b there) ∙ sym (below_more flow schemas o k b leads)))
+  where
+    same : (x : Bool) → (x ≡ true → fields ≡ get_or schemas k fields) → cond x (fields ∷ []) [] ≡ cond x (get_or schemas k [] ∷ []) []
+    same true t = ap (λ f. f ∷ []) (get_or_read schemas k fields (omega (arith, h, len)) (t refl) [])
+    same false t = refl
 
 -- the first cause of the links from k on
 abbrev pub causes_from : Flow → List (List Field) → ℕ → ℕ → Option ShapeWhy

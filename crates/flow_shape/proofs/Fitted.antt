@@ -14,10 +14,11 @@ use Rattle.flow_graph.specs.FlowShape.{ColumnsLie, FewKept}
 use Rattle.flow_graph.specs.RowRules.{ExprsFit}
 use Rattle.op_shape.specs.Causes.{first_cause}
 use Rattle.op_shape.specs.Columns.{set_columns, set_fields, kept_columns}
+use Rattle.op_shape.specs.Keyed.{source_columns}
 use Rattle.op_shape.specs.Options.{IsKnown, OptionsStand, first_fields, option_causes, output_causes, output_fields, operator_columns}
 use Rattle.op_shape.proofs.Fit.{FewCases, kept, modify_lies}
 use Rattle.op_shape.proofs.Putting.{sets_lie}
-use Rattle.op_shape.proofs.Same.{output_same}
+use Rattle.op_shape.proofs.Joined.{is_grouped, sources_lie}
 use Rattle.flow_shape.specs.Ports.{may_have_in, may_have_out, with_reject}
 use Rattle.flow_shape.specs.Refusals.{chart_of, inputs_at, given_on, Fits}
 
@@ -36,6 +37,12 @@ exprs_over (kind.Modify keep drop rename) fields first parts n h e same f = tt
 exprs_over (kind.Switch on cases reject) fields first parts n h e same f = subst (λ fs. ExprsFit fs (kind.Switch on cases reject) parts) (same (some_input n e)) f
 exprs_over (kind.Tsort key) fields first parts n h e same f = tt
 exprs_over (kind.Remdup key last) fields first parts n h e same f = tt
+exprs_over (kind.Group key hash results) fields first parts n h e same f = tt
+exprs_over (kind.InnerJoin key) fields first parts n h e same f = tt
+exprs_over (kind.LeftOuterJoin key) fields first parts n h e same f = tt
+exprs_over (kind.RightOuterJoin key) fields first parts n h e same f = tt
+exprs_over (kind.FullOuterJoin key) fields first parts n h e same f = tt
+exprs_over (kind.Lookup key missing) fields first parts n h e same f = tt
 exprs_over k fields first parts n h e same f = absurd h
 
 -- a switch with outputs such as it may have has few cases
@@ -53,30 +60,28 @@ none_lie xs ds e = subst (λ ys. Lies ys ds) (sym e) tt
 both_lie : (xs ys : List ℕ) (m n : ℕ) → xs ≡ ys → n ≡ m → Lies ys (all_columns m) → Lies xs (all_columns n)
 both_lie xs ys m n e f l = subst (λ zs. Lies zs (all_columns n)) (sym e) (subst (λ k. Lies ys (all_columns k)) (sym f) l)
 
-pub columns_fit : (c : Chart) (o : ℕ) (k : OpKind) (fields : List Field) (n : ℕ) → IsKnown k → OptionsStand k → first_cause (option_causes k (fields ∷ []) ++ output_causes k (fields ∷ [])) ≡ None → cols_at c o ≡ operator_columns k (fields ∷ [])
-    → may_have_in k n ≡ true → (0 < n → length fields ≡ first_width c o) → ((l : ℕ) → IsIn l (links_from c o) → (link_at c l).out ≡ 0 → width_at c l ≡ length (output_fields k (fields ∷ []) 0)) → ColumnsLie c o k
-columns_fit c o (kind.Import file schema delim fixed reject) fields n h stand none e fed w given = none_lie (cols_at c o) _ e
-columns_fit c o (kind.Export file delim fixed) fields n h stand none e fed w given = none_lie (cols_at c o) _ e
-columns_fit c o kind.Copy fields n h stand none e fed w given = none_lie (cols_at c o) _ e
-columns_fit c o (kind.Filter test reject) fields n h stand none e fed w given = none_lie (cols_at c o) _ e
-columns_fit c o (kind.Transform set reject) fields n h stand none e fed w given = λ l i z. both_lie (cols_at c o) (set_columns fields set) (length (set_fields fields set)) (width_at c l) e (given l i z) (sets_lie set fields)
-columns_fit c o (kind.Modify keep drop rename) fields n h stand none e fed w given = both_lie (cols_at c o) (kept_columns keep drop fields) (length fields) (first_width c o) e (sym (w (some_input n fed))) (modify_lies keep drop rename fields none)
-columns_fit c o (kind.Switch on cases reject) fields n h stand none e fed w given = none_lie (cols_at c o) _ e
-columns_fit c o (kind.Tsort key) fields n h stand none e fed w given = none_lie (cols_at c o) _ e
-columns_fit c o (kind.Remdup key last) fields n h stand none e fed w given = none_lie (cols_at c o) _ e
-columns_fit c o k fields n h stand none e fed w given = absurd h
+pub columns_fit : (c : Chart) (o : ℕ) (k : OpKind) (ins : List (List Field)) (n : ℕ) → IsKnown k → OptionsStand k → first_cause (option_causes k ins ++ output_causes k ins) ≡ None → cols_at c o ≡ operator_columns k ins
+    → may_have_in k n ≡ true → (0 < n → length (first_fields ins) ≡ first_width c o) → ((l : ℕ) → IsIn l (links_from c o) → (link_at c l).out ≡ 0 → width_at c l ≡ length (output_fields k ins 0)) → ColumnsLie c o k
+columns_fit c o (kind.Import file schema delim fixed reject) ins n h stand none e fed w given = none_lie (cols_at c o) _ e
+columns_fit c o (kind.Export file delim fixed) ins n h stand none e fed w given = none_lie (cols_at c o) _ e
+columns_fit c o kind.Copy ins n h stand none e fed w given = none_lie (cols_at c o) _ e
+columns_fit c o (kind.Filter test reject) ins n h stand none e fed w given = none_lie (cols_at c o) _ e
+columns_fit c o (kind.Transform set reject) ins n h stand none e fed w given = λ l i z. both_lie (cols_at c o) (set_columns (first_fields ins) set) (length (set_fields (first_fields ins) set)) (width_at c l) e (given l i z) (sets_lie set (first_fields ins))
+columns_fit c o (kind.Modify keep drop rename) ins n h stand none e fed w given = both_lie (cols_at c o) (kept_columns keep drop (first_fields ins)) (length (first_fields ins)) (first_width c o) e (sym (w (some_input n fed))) (modify_lies keep drop rename (first_fields ins) none)
+columns_fit c o (kind.Switch on cases reject) ins n h stand none e fed w given = none_lie (cols_at c o) _ e
+columns_fit c o (kind.Tsort key) ins n h stand none e fed w given = none_lie (cols_at c o) _ e
+columns_fit c o (kind.Remdup key last) ins n h stand none e fed w given = none_lie (cols_at c o) _ e
+columns_fit c o (kind.Group key hash results) ins n h stand none e fed w given = both_lie (cols_at c o) (source_columns results (first_fields ins)) (length (first_fields ins)) (first_width c o) e (sym (w (some_input n fed))) (sources_lie results (first_fields ins) (is_grouped key results (first_fields ins) none).sound)
+columns_fit c o (kind.InnerJoin key) ins n h stand none e fed w given = none_lie (cols_at c o) _ e
+columns_fit c o (kind.LeftOuterJoin key) ins n h stand none e fed w given = none_lie (cols_at c o) _ e
+columns_fit c o (kind.RightOuterJoin key) ins n h stand none e fed w given = none_lie (cols_at c o) _ e
+columns_fit c o (kind.FullOuterJoin key) ins n h stand none e fed w given = none_lie (cols_at c o) _ e
+columns_fit c o (kind.Lookup key missing) ins n h stand none e fed w given = none_lie (cols_at c o) _ e
+columns_fit c o k ins n h stand none e fed w given = absurd h
 
-pub few_kept : (k : OpKind) (fields : List Field) (cs : List ℕ) → IsKnown k → first_cause (option_causes k (fields ∷ []) ++ output_causes k (fields ∷ [])) ≡ None → cs ≡ operator_columns k (fields ∷ []) → FewKept k cs
-few_kept (kind.Import file schema delim fixed reject) fields cs h none e = tt
-few_kept (kind.Export file delim fixed) fields cs h none e = tt
-few_kept kind.Copy fields cs h none e = tt
-few_kept (kind.Filter test reject) fields cs h none e = tt
-few_kept (kind.Transform set reject) fields cs h none e = tt
-few_kept (kind.Modify keep drop rename) fields cs h none e = let few = (kept keep drop rename fields none).few in let len = ap length e in omega (arith, few, len)
-few_kept (kind.Switch on cases reject) fields cs h none e = tt
-few_kept (kind.Tsort key) fields cs h none e = tt
-few_kept (kind.Remdup key last) fields cs h none e = tt
-few_kept k fields cs h none e = absurd h
+pub few_kept : (k : OpKind) (ins : List (List Field)) (cs : List ℕ) → first_cause (option_causes k ins ++ output_causes k ins) ≡ None → cs ≡ operator_columns k ins → FewKept k cs
+few_kept (kind.Modify keep drop rename) ins cs none e = let few = (kept keep drop rename (first_fields ins) none).few in let len = ap length e in omega (arith, few, len)
+few_kept k ins cs none e = tt
 
 -- the links that leave an operator
 in_by : (x : Bool) (q : ℕ → Bool) (l n : ℕ) (ns : List ℕ) → q n ≡ x → IsIn l (cond x (n ∷ filter q ns) (filter q ns)) → (IsIn l (filter q ns) → (q l ≡ true) × IsIn l ns) → (q l ≡ true) × IsIn l (n ∷ ns)
@@ -95,11 +100,9 @@ leaves flow o l i =
     (omega (arith, bounds.1), eqb-true _ o both.0)
 
 -- the fields of output 0 of an operator that fits
-pub given_fields : (flow : Flow) (schemas : List (List Field)) (o l : ℕ) → IsKnown (get_or flow.ops o no_op).kind → Fits (chart_of flow schemas) o → l < length flow.links → (get_or flow.links l no_link).from ≡ o → (get_or flow.links l no_link).out ≡ 0
-    → get_or schemas l [] ≡ output_fields (get_or flow.ops o no_op).kind (first_fields (inputs_at (chart_of flow schemas) o) ∷ []) 0
-given_fields flow schemas o l known f w e z =
-    let ins = inputs_at (chart_of flow schemas) o in
-    let k = (get_or flow.ops o no_op).kind in
+pub given_fields : (flow : Flow) (schemas : List (List Field)) (o l : ℕ) → Fits (chart_of flow schemas) o → l < length flow.links → (get_or flow.links l no_link).from ≡ o → (get_or flow.links l no_link).out ≡ 0
+    → get_or schemas l [] ≡ output_fields (get_or flow.ops o no_op).kind (inputs_at (chart_of flow schemas) o) 0
+given_fields flow schemas o l f w e z =
     let q = (get_or flow.links l no_link).out in
-    let from : given_on (chart_of flow schemas) l ≡ output_fields k ins q = ap (λ p. output_fields (get_or flow.ops p no_op).kind (inputs_at (chart_of flow schemas) p) q) e in
-    f.gives l w e ∙ (from ∙ (ap (output_fields k ins) z ∙ sym (output_same k ins 0 known)))
+    let from : given_on (chart_of flow schemas) l ≡ output_fields (get_or flow.ops o no_op).kind (inputs_at (chart_of flow schemas) o) q = ap (λ p. output_fields (get_or flow.ops p no_op).kind (inputs_at (chart_of flow schemas) p) q) e in
+    f.gives l w e ∙ (from ∙ ap (output_fields (get_or flow.ops o no_op).kind (inputs_at (chart_of flow schemas) o)) z)

@@ -26,13 +26,12 @@ use Rattle.flow_shape.specs.Spelled.{IsJoined}
 use Rattle.flow_shape.proofs.Causing.{known_at, all_at}
 use Rattle.op_shape.proofs.Fit.{exprs_fit}
 use Rattle.op_shape.proofs.Held.{operator_keys_lie, operator_keys_differ}
-use Rattle.op_shape.proofs.Same.{parts_same}
 use Rattle.flow_shape.proofs.Fitted.{exprs_over, few_cases, columns_fit, few_kept, leaves, given_fields}
 use Rattle.flow_shape.proofs.Given.{ends, has_ports}
-use Rattle.flow_shape.proofs.Holding.{route_fits, form_ports, form_out, form_fills, first_of, few_links}
+use Rattle.flow_shape.proofs.Holding.{route_fits, form_ports, form_out, form_fills, first_of, each_of, few_links}
 use Rattle.flow_shape.proofs.Numbers.{into_count}
 use Rattle.flow_shape.proofs.Ordering.{order_once, order_forward}
-use Rattle.flow_shape.proofs.Sound.{method_none, method_sound, cause_parts, own_none}
+use Rattle.flow_shape.proofs.Sound.{method_none, method_sound, cause_parts}
 use Rattle.flow_shape.proofs.Stuck.{whole_order}
 
 -- what was found, and what is known of it
@@ -113,24 +112,22 @@ op_fits flow dict schemas parts written order stored f o h =
     let mine = parts_are flow dict schemas parts written order stored f o h in
     let fits = f.fit.fits o h in
     let none = (cause_parts flow schemas o fits.sound).1 in
-    let own = own_none flow schemas o first known refl fits.sound in
     let stand = all_at (λ (s : OpSpec). OptionsStand s.kind) flow.ops o no_op f.joined.options h in
     let ports = has_ports flow o f.ports h in
     let fed : may_have_in k (length into) ≡ true = subst (λ n. may_have_in k n ≡ true) (sym (into_count flow o)) ports.0 in
-    let same : get_or parts o no_parts ≡ operator_parts k (first ∷ []) = mine ∙ sym (parts_same k ins known) in
     let over : 0 < length into → first ≡ get_or schemas (get_or into 0 0) [] = λ w. first_of (λ l. get_or schemas l []) into [] 0 w in
     let width : ℕ → ℕ = λ i. length (get_or schemas (get_or into i 0) []) in
     record {
       ports = f.joined.ports o;
       inputs = form_ports k (keys_at c o) (cols_at c o) (get_or stored o None) (first_width c o) (length into) known fed;
       keys = λ i w. subst (λ (p : OpParts). Lies (cols (get_keys p.keys i)) (all_columns (width i))) (sym mine)
-          (operator_keys_lie k ins width i known none (ap length (first_of (λ l. get_or schemas l []) into [] i w)));
+          (operator_keys_lie k ins i (width i) known none (ap length (each_of (λ l. get_or schemas l []) into [] i w)));
       keys_differ = subst (λ (p : OpParts). AllByRecursion KeysDiffer p.keys) (sym mine) (operator_keys_differ k ins known none (all_at (λ (s : OpSpec). KeysDistinct s.kind) flow.ops o no_op f.joined.keys h));
-      columns = columns_fit c o k first (length into) known stand own (ap (λ (p : OpParts). p.cols) same) fed (λ w. ap length (over w))
-          (λ l i z. let out = leaves flow o l i in ap length (given_fields flow schemas o l known fits out.0 out.1 z));
-      few_kept = few_kept k first (cols_at c o) known own (ap (λ (p : OpParts). p.cols) same);
+      columns = columns_fit c o k ins (length into) known stand none (ap (λ (p : OpParts). p.cols) mine) fed (λ w. ap length (over w))
+          (λ l i z. let out = leaves flow o l i in ap length (given_fields flow schemas o l fits out.0 out.1 z));
+      few_kept = few_kept k ins (cols_at c o) none (ap (λ (p : OpParts). p.cols) mine);
       exprs = exprs_over k first (get_or schemas (get_or into 0 0) []) (get_or parts o no_parts) (length into) known fed over
-          (subst (ExprsFit first k) (sym same) (exprs_fit k first known stand (few_cases k (count_in flow.links o) (count_out flow.links o) ports.1) own));
+          (subst (ExprsFit first k) (sym mine) (exprs_fit k ins known stand (few_cases k (count_in flow.links o) (count_out flow.links o) ports.1) none));
     }
 
 pub is_shape : (flow : Flow) (dict : List Stored) (schemas : List (List Field)) (parts : List OpParts) (written : List (Option Route)) (order : List ℕ) (stored : List (Option Stored)) → Finds flow dict schemas parts written order stored → IsShape (made flow schemas parts written order stored)

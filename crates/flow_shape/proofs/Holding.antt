@@ -62,6 +62,12 @@ form_ports (kind.Modify keep drop rename) keys cs stored width n h e = eqb-true 
 form_ports (kind.Switch on cases reject) keys cs stored width n h e = eqb-true n 1 e
 form_ports (kind.Tsort key) keys cs stored width n h e = eqb-true n 1 e
 form_ports (kind.Remdup key last) keys cs stored width n h e = eqb-true n 1 e
+form_ports (kind.Group key hash results) keys cs stored width n h e = eqb-true n 1 e
+form_ports (kind.InnerJoin key) keys cs stored width n h e = eqb-true n 2 e
+form_ports (kind.LeftOuterJoin key) keys cs stored width n h e = eqb-true n 2 e
+form_ports (kind.RightOuterJoin key) keys cs stored width n h e = eqb-true n 2 e
+form_ports (kind.FullOuterJoin key) keys cs stored width n h e = eqb-true n 2 e
+form_ports (kind.Lookup key missing) keys cs stored width n h e = eqb-true n 2 e
 form_ports k keys cs stored width n h e = absurd h
 
 pub form_out : (k : OpKind) (keys : List (List Key)) (cs : List ℕ) (stored : Option Stored) (width q : ℕ) → IsKnown k → FormHasPort (kind_form k keys cs stored width) q
@@ -74,6 +80,12 @@ form_out (kind.Modify keep drop rename) keys cs stored width q h = tt
 form_out (kind.Switch on cases reject) keys cs stored width q h = tt
 form_out (kind.Tsort key) keys cs stored width q h = tt
 form_out (kind.Remdup key last) keys cs stored width q h = tt
+form_out (kind.Group key hash results) keys cs stored width q h = tt
+form_out (kind.InnerJoin key) keys cs stored width q h = tt
+form_out (kind.LeftOuterJoin key) keys cs stored width q h = tt
+form_out (kind.RightOuterJoin key) keys cs stored width q h = tt
+form_out (kind.FullOuterJoin key) keys cs stored width q h = tt
+form_out (kind.Lookup key missing) keys cs stored width q h = tt
 form_out k keys cs stored width q h = absurd h
 
 pub form_fills : (k : OpKind) (keys : List (List Key)) (cs : List ℕ) (stored : Option Stored) (width w : ℕ) → IsKnown k → FormFills (kind_form k keys cs stored width) w
@@ -86,11 +98,22 @@ form_fills (kind.Modify keep drop rename) keys cs stored width w h = tt
 form_fills (kind.Switch on cases reject) keys cs stored width w h = tt
 form_fills (kind.Tsort key) keys cs stored width w h = tt
 form_fills (kind.Remdup key last) keys cs stored width w h = tt
+form_fills (kind.Group key hash results) keys cs stored width w h = tt
+form_fills (kind.InnerJoin key) keys cs stored width w h = tt
+form_fills (kind.LeftOuterJoin key) keys cs stored width w h = tt
+form_fills (kind.RightOuterJoin key) keys cs stored width w h = tt
+form_fills (kind.FullOuterJoin key) keys cs stored width w h = tt
+form_fills (kind.Lookup key missing) keys cs stored width w h = tt
 form_fills k keys cs stored width w h = absurd h
 
 pub first_of : {X : Type 0} (f : ℕ → X) (ns : List ℕ) (d : X) (i : ℕ) → i < length ns → get_or (map f ns) 0 d ≡ f (get_or ns 0 0)
 first_of f [] d i h = absurd (omega arith)
 first_of f (n ∷ ns) d i h = refl
+
+pub each_of : {X : Type 0} (f : ℕ → X) (ns : List ℕ) (d : X) (i : ℕ) → i < length ns → get_or (map f ns) i d ≡ f (get_or ns i 0)
+each_of f [] d i h = absurd (omega arith)
+each_of f (n ∷ ns) d zero h = refl
+each_of f (n ∷ ns) d (suc i) h = each_of f ns d i (omega arith)
 
 -- few links lead into few operators
 abbrev sum_in : List LinkSpec → ℕ → ℕ
@@ -131,6 +154,12 @@ known_in (kind.Modify keep drop rename) n h e = omega (arith, eqb-true n 1 e)
 known_in (kind.Switch on cases reject) n h e = omega (arith, eqb-true n 1 e)
 known_in (kind.Tsort key) n h e = omega (arith, eqb-true n 1 e)
 known_in (kind.Remdup key last) n h e = omega (arith, eqb-true n 1 e)
+known_in (kind.Group key hash results) n h e = omega (arith, eqb-true n 1 e)
+known_in (kind.InnerJoin key) n h e = omega (arith, eqb-true n 2 e)
+known_in (kind.LeftOuterJoin key) n h e = omega (arith, eqb-true n 2 e)
+known_in (kind.RightOuterJoin key) n h e = omega (arith, eqb-true n 2 e)
+known_in (kind.FullOuterJoin key) n h e = omega (arith, eqb-true n 2 e)
+known_in (kind.Lookup key missing) n h e = omega (arith, eqb-true n 2 e)
 known_in k n h e = absurd h
 
 pub few_links : (flow : Flow) → HasOnlyKnown flow → HasNone (length flow.ops) (WrongPorts flow) → AreWithin (length flow.ops) flow.links → length flow.ops ≤ 200 → length flow.links < 2 ^ 32

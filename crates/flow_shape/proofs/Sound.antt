@@ -10,10 +10,9 @@ use Rattle.op_shape.specs.declared.fault.ShapeWhy.{ShapeWhy}
 use Rattle.op_shape.specs.declared.fault.ShapeWhy.TheVariants as why
 use Rattle.op_shape.specs.Causes.{first_cause, cause_if}
 use Rattle.flow_shape.specs.Methods.{may_stand, all_named, kinds_suit, method_cause}
-use Rattle.op_shape.specs.Options.{first_fields, option_causes, output_causes, IsKnown}
+use Rattle.op_shape.specs.Options.{option_causes, output_causes}
 use Rattle.flow_shape.specs.Refusals.{chart_of, inputs_at, input_cause, operator_cause}
 use Rattle.op_shape.proofs.Firsts.{none_both}
-use Rattle.op_shape.proofs.Same.{own_same}
 
 alone : (c : Option ShapeWhy) → first_cause (c ∷ []) ≡ None → c ≡ None
 alone None h = refl
@@ -48,11 +47,11 @@ method_none flow schemas l h e =
     let each = none_each (λ k. (get_or flow.links k no_link).to == o) (input_cause (chart_of flow schemas) o) (range_with_len 0 (length flow.links)) (cause_parts flow schemas o e).0 in
     range_at (λ k. ((get_or flow.links k no_link).to == o) ≡ true → input_cause (chart_of flow schemas) o k ≡ None) 0 (length flow.links) l each (omega arith) (omega (arith, h)) (eq-eqb o o refl)
 
-pub own_none : (flow : Flow) (schemas : List (List Field)) (o : ℕ) (first : List Field) → IsKnown (get_or flow.ops o no_op).kind → first ≡ first_fields (inputs_at (chart_of flow schemas) o) → operator_cause (chart_of flow schemas) o ≡ None
-    → first_cause (option_causes (get_or flow.ops o no_op).kind (first ∷ []) ++ output_causes (get_or flow.ops o no_op).kind (first ∷ [])) ≡ None
-own_none flow schemas o first known f e =
+pub own_none : (flow : Flow) (schemas : List (List Field)) (o : ℕ) (ins : List (List Field)) → ins ≡ inputs_at (chart_of flow schemas) o → operator_cause (chart_of flow schemas) o ≡ None
+    → first_cause (option_causes (get_or flow.ops o no_op).kind ins ++ output_causes (get_or flow.ops o no_op).kind ins) ≡ None
+own_none flow schemas o ins f e =
     let k = (get_or flow.ops o no_op).kind in
-    ap (λ x. first_cause (option_causes k (x ∷ []) ++ output_causes k (x ∷ []))) f ∙ (sym (own_same k (inputs_at (chart_of flow schemas) o) known) ∙ (cause_parts flow schemas o e).1)
+    ap (λ x. first_cause (option_causes k x ++ output_causes k x)) f ∙ (cause_parts flow schemas o e).1
 
 record_by : (x y z : Bool) → first_cause (cause_if (not x) why.Method ∷ (cause_if (not y) why.Field ∷ (cause_if (not z) why.Kind ∷ []))) ≡ None → (x ≡ true) × (y ≡ true) × (z ≡ true)
 record_by true true true e = (refl, refl, refl)

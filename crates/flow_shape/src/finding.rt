@@ -8,7 +8,7 @@ ghost use Rattle.flow_shape.specs.Ports.{WrongPorts};
 ghost use Rattle.flow_shape.specs.Refusals.{HasOnlyKnown, chart_of, Fits, all_ops, parts_at, written_at, stored_for, stored_at};
 ghost use Rattle.flow_shape.specs.Spelled.{HasDistinctKeys, HasDistinctMethods};
 
-use crate::inputs::first_schema;
+use crate::inputs::input_schemas;
 use crate::methods::written_route;
 use crate::reading::{fields_at, link_at, op_at};
 use ds_schema::Schema;
@@ -26,8 +26,8 @@ fn parts_at(alloc: Global, flow: &Flow, schemas: &[Schema], op: u32) -> Result<O
     requires fit { Fits (chart_of flow.now schemas.now) op }
     ensures { IfOk result (λ parts. parts ≡ parts_at (chart_of flow.now schemas.now) op) }
 {
-    let first = first_schema(flow, schemas, op);
-    operator_parts(alloc, &op_at(flow, op).kind, first)
+    let ins = input_schemas(alloc, flow, schemas, op)?;
+    operator_parts(alloc, &op_at(flow, op).kind, ins.as_slice())
 }
 
 /// What the names of each operator's options stand for.

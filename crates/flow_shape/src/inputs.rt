@@ -1,4 +1,4 @@
-ghost use Rattle.std.specs.Prelude.{◌≡◌, ◌<◌, ◌==◌, [], cond, map, length, get_or, position, slice_get, option_copied, None, Some, IfSome};
+ghost use Rattle.std.specs.Prelude.{◌≡◌, ◌<◌, ◌==◌, cond, map, length, get_or, None, IfOk};
 ghost use Rattle.flow_graph.specs.Charts.{no_op, no_link, is_seq, links_into};
 ghost use Rattle.op_shape.specs.Causes.{first_cause};
 ghost use Rattle.flow_shape.specs.Refusals.{chart_of, inputs_at, input_cause};
@@ -6,26 +6,28 @@ ghost use Rattle.flow_shape.specs.Refusals.{chart_of, inputs_at, input_cause};
 use crate::methods::method_cause;
 use crate::reading::{fields_at, link_at, op_at};
 use ds_schema::Schema;
-use flow_graph::{Flow, LinkSpec, Mark};
+use ds_value::NoMemory;
+use flow_graph::{Flow, Mark};
 use op_shape::ShapeWhy;
+use std::alloc::Global;
 
-/// The first link into an operator.
-pub fn first_into(links: &[LinkSpec], op: u32) -> Option<usize>
-    ensures place { result ≡ position (λ l. l.to == op) links.now }
-    ensures within { IfSome result (λ k. k < length links.now) }
-{
-    links.iter().position(|link| link.to == op)
-}
-
-/// The schema of input 0; none where there is no input.
-pub fn first_schema<'a>(flow: &Flow, schemas: &'a [Schema], op: u32) -> Option<&'a Schema>
+/// The schemas of an operator's inputs, by port.
+pub fn input_schemas<'a>(
+    alloc: Global,
+    flow: &Flow,
+    schemas: &'a [Schema],
+    op: u32,
+) -> Result<Vec<&'a Schema>, NoMemory>
     requires { length schemas.now ≡ length flow.now.links }
-    ensures { option_copied result ≡ slice_get (inputs_at (chart_of flow.now schemas.now) op) 0 }
+    ensures { IfOk result (λ ins. map (λ s. s.now) ins.items ≡ inputs_at (chart_of flow.now schemas.now) op) }
 {
-    match first_into(flow.links.as_slice(), op) {
-        Some(link) => Some(&schemas[link]),
-        None => None,
+    let mut ins = Vec::new(alloc);
+    for (link, spec) in flow.links.as_slice().iter().enumerate() {
+        if spec.to == op {
+            ins.push(&schemas[link])?;
+        }
     }
+    Ok(ins)
 }
 
 fn is_seq(mark: Mark) -> bool

@@ -25,4 +25,6 @@ pub use sequence::{one_order, ordered_is_free};
 pub use shaping::shape;
 
 #[cfg(test)]
+mod keyed_tests;
+#[cfg(test)]
 mod tests;

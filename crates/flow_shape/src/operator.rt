@@ -3,7 +3,7 @@ ghost use Rattle.flow_shape.specs.Lowest.{HasNone};
 ghost use Rattle.flow_shape.specs.Ports.{WrongPorts};
 ghost use Rattle.flow_shape.specs.Refusals.{HasOnlyKnown, chart_of, operator_cause};
 
-use crate::inputs::{first_schema, inputs_cause};
+use crate::inputs::{input_schemas, inputs_cause};
 use crate::reading::op_at;
 use ds_schema::Schema;
 use ds_value::NoMemory;
@@ -26,10 +26,9 @@ pub fn operator_cause(
 {
     match inputs_cause(flow, schemas, op) {
         Some(why) => Ok(Some(why)),
-        None => own_cause(
-            alloc,
-            &op_at(flow, op).kind,
-            first_schema(flow, schemas, op),
-        ),
+        None => {
+            let ins = input_schemas(alloc, flow, schemas, op)?;
+            own_cause(alloc, &op_at(flow, op).kind, ins.as_slice())
+        }
     }
 }

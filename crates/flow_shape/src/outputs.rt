@@ -6,7 +6,7 @@ ghost use Rattle.flow_shape.specs.Ports.{WrongPorts};
 ghost use Rattle.flow_shape.specs.Refusals.{HasOnlyKnown, chart_of, given_on, operator_cause};
 ghost use Rattle.flow_shape.specs.Spelled.{HasSoundOptions};
 
-use crate::inputs::first_schema;
+use crate::inputs::input_schemas;
 use crate::reading::{link_at, op_at};
 use ds_schema::Schema;
 use ds_value::NoMemory;
@@ -31,6 +31,11 @@ pub fn given_schema(
     ensures { IfOk result (λ schema. schema ≡ given_on (chart_of flow.now schemas.now) link) }
 {
     let spec = link_at(flow, link);
-    let first = first_schema(flow, schemas, spec.from);
-    output_schema(alloc, &op_at(flow, spec.from).kind, first, spec.out)
+    let ins = input_schemas(alloc, flow, schemas, spec.from)?;
+    output_schema(
+        alloc,
+        &op_at(flow, spec.from).kind,
+        ins.as_slice(),
+        spec.out,
+    )
 }

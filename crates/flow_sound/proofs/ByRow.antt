@@ -22,6 +22,7 @@ use Rattle.flow_graph.specs.FlowShape.{ColumnsLie, FormPorts, IsShape}
 use Rattle.flow_graph.specs.RowRules.{first_expr, numbered, row_rule, sets_of}
 use Rattle.flow_graph.specs.Shapes.{PassesInto, RowShape, Wide}
 use Rattle.flow_graph.proofs.RowShapes.{filter_shape, modify_shape, switch_shape, transform_shape}
+use Rattle.flow_rules.specs.Exports.{input_of}
 use Rattle.op_shape.specs.Causes.{first_cause}
 use Rattle.op_shape.specs.Columns.{field_at, modified_fields, renamed, set_fields}
 use Rattle.op_shape.proofs.Firsts.{none_both}
@@ -30,11 +31,11 @@ use Rattle.op_shape.proofs.Putting.{width_is}
 use Rattle.op_shape.specs.Options.{made_or_rejected, operator_parts, option_causes, output_causes, output_fields}
 use Rattle.flow_shape.specs.Refusals.{IsShapeOf, fields_at, input_cause, inputs_at, kind_at, parts_at}
 use Rattle.flow_sound.specs.Fitting.{IsByRow}
-use Rattle.flow_rules.specs.Exports.{input_of}
 use Rattle.flow_sound.proofs.Members.{below_range}
 use Rattle.flow_sound.proofs.Order.{enters_it}
 use Rattle.flow_sound.proofs.SetRows.{wider}
-use Rattle.flow_sound.proofs.Working.{Fit, KeptLie, Works, fits_long, kept_fit, same_fit, set_row_fits, set_targets}
+use Rattle.flow_sound.proofs.Picking.{picked_fit}
+use Rattle.flow_sound.proofs.Working.{Fit, KeptLie, Works, fits_long, renamed_fits, same_fit, set_row_fits, set_targets}
 
 -- ---- rules
 
@@ -101,7 +102,7 @@ rows_fit o (kind.Filter test reject) fields parts h w q r e =
 rows_fit o (kind.Switch on cases reject) fields parts h w q r e =
     same_fit fields r ((row_rule o (kind.Switch on cases reject) parts).rows q r) e ((switch_shape (length r) (length cases) (case_of (first_expr parts) cases) reject).passes q r refl)
 rows_fit o (kind.Modify keep drop rename) fields parts h w q r e =
-    let fit = kept_fit fields rename r parts.cols e (all_below (length fields) parts.cols w.kept) in
+    let fit = picked_fit (renamed rename) (renamed_fits rename) fields r parts.cols e (all_below (length fields) parts.cols w.kept) in
     (ap (λ cs. row_fits (map (renamed rename) (map (field_at fields) cs)) (val parts.cols r)) (sym (ap (λ (p : OpParts). p.cols) w.parts_are)) ∙ fit, tt)
 rows_fit o (kind.Transform set reject) fields parts h w zero r e = set_row_fits set reject fields parts r w e
 rows_fit o (kind.Transform set reject) fields parts h w (suc q) r e =
@@ -138,13 +139,20 @@ kept_lie : (c : Chart) (o : ℕ) (k : OpKind) → ColumnsLie c o k → KeptLie (
 kept_lie c o (kind.Modify keep drop rename) h = h
 kept_lie c o k h = tt
 
+-- what its names stand for, and that nothing is wrong at its options
+pub parts_are_at : (flow : Flow) (dict : List Stored) (c : Chart) → IsShapeOf flow dict c → (o : ℕ) → o < length c.flow.ops → parts_of c o ≡ operator_parts (kind_at c o) (inputs_at c o)
+parts_are_at flow dict c f o b = ap (λ ps. get_or ps o no_parts) f.parts ∙ get_or-map-range_with_len (parts_at c) 0 (length c.flow.ops) o o no_parts b (omega arith)
+
+pub options_sound : (flow : Flow) (dict : List Stored) (c : Chart) → IsShapeOf flow dict c → (o : ℕ) → o < length c.flow.ops → first_cause (option_causes (kind_at c o) (inputs_at c o)) ≡ None
+options_sound flow dict c f o b =
+    (none_both (option_causes (kind_at c o) (inputs_at c o)) (output_causes (kind_at c o) (inputs_at c o))
+    (none_both (map (input_cause c o) (links_into c o)) (option_causes (kind_at c o) (inputs_at c o) ++ output_causes (kind_at c o) (inputs_at c o)) (f.schemas.fits o b).sound).1).0
+
 pub works_at : (flow : Flow) (dict : List Stored) (c : Chart) → IsShape c → IsShapeOf flow dict c → (o : ℕ) → o < length c.flow.ops → IsByRow (op_at c o).kind → Works (op_at c o).kind (first_fields c o) (parts_of c o)
 works_at flow dict c s f o b h = record {
   schema = (s.links (input_of c o) (link_there c o (into_by_row c o s b h))).schema;
-  parts_are = ap (λ ps. get_or ps o no_parts) f.parts ∙ get_or-map-range_with_len (parts_at c) 0 (length c.flow.ops) o o no_parts b (omega arith) ∙ ap (operator_parts (kind_at c o)) (one_input c o s b h);
+  parts_are = parts_are_at flow dict c f o b ∙ ap (operator_parts (kind_at c o)) (one_input c o s b h);
   exprs = (s.ops o b).exprs;
-  sound = subst (λ ins. first_cause (option_causes (kind_at c o) ins) ≡ None) (one_input c o s b h)
-      (none_both (option_causes (kind_at c o) (inputs_at c o)) (output_causes (kind_at c o) (inputs_at c o))
-      (none_both (map (input_cause c o) (links_into c o)) (option_causes (kind_at c o) (inputs_at c o) ++ output_causes (kind_at c o) (inputs_at c o)) (f.schemas.fits o b).sound).1).0;
+  sound = subst (λ ins. first_cause (option_causes (kind_at c o) ins) ≡ None) (one_input c o s b h) (options_sound flow dict c f o b);
   kept = kept_lie c o (op_at c o).kind (s.ops o b).columns;
 }

@@ -1,5 +1,5 @@
 -- Operators of the kinds that a shaped flow names are such as the law of flows asks.
-use Rattle.std.proofs.Common.{◌≡◌, ℕ, zero, suc, ◌<◌, Bool, true, false, cond, List, [], ◌∷◌, map, get_or, refl, sym, ap, ap₂, ◌∙◌, subst, length, flat_map, Option, Some, None}
+use Rattle.std.proofs.Common.{◌≡◌, ℕ, zero, suc, ◌<◌, Bool, true, false, cond, List, [], ◌∷◌, map, get_or, sym, ap, ap₂, ◌∙◌, subst, length, flat_map, Option, Some, None}
 use Rattle.std.specs.List.{AllByRecursion}
 use Rattle.ds_schema.specs.declared.schema.Field.{Field}
 use Rattle.ds_schema.specs.Schemas.{row_fits}
@@ -11,6 +11,7 @@ use Rattle.op_base.proofs.All.{all_append, all_map, map_two}
 use Rattle.flow_graph.specs.declared.op_kind.OpKind.{OpKind}
 use Rattle.flow_graph.specs.declared.op_kind.OpKind.TheVariants as kind
 use Rattle.flow_graph.specs.declared.op_kind.SetSpec.{SetSpec}
+use Rattle.flow_graph.specs.declared.flow.Flow.{Flow}
 use Rattle.flow_graph.specs.declared.parts.OpParts.{OpParts}
 use Rattle.flow_graph.specs.declared.parts.Stored.{Stored}
 use Rattle.flow_graph.specs.declared.route.Route.{Route}
@@ -21,16 +22,17 @@ use Rattle.flow_graph.specs.Forms.{form, by_row as passing}
 use Rattle.flow_graph.specs.Operators.{Op, by_row}
 use Rattle.flow_graph.specs.RowRules.{ExprsFit, row_rule, sets_of}
 use Rattle.flow_graph.specs.Runs.{FitsShape, Out, RouteFits}
-use Rattle.flow_graph.specs.Shapes.{FitsPorts, HasPort, IsShaped, KeysDistinct, RowShape, Wide}
+use Rattle.flow_graph.specs.Shapes.{HasPort, IsShaped, RowShape, Wide}
 use Rattle.flow_graph.proofs.RowShapes.{copy_shape, sink_shape}
 use Rattle.flow_derive.specs.LinkStates.{written_or_same}
 use Rattle.flow_rules.specs.Verdicts.{node_at}
-use Rattle.op_shape.specs.Options.{first_fields, line_fields, made_or_rejected, output_fields}
+use Rattle.op_shape.specs.Options.{IsKeyed, first_fields, line_fields, made_or_rejected, output_fields}
 use Rattle.flow_shape.specs.Refusals.{Fits, fields_at, inputs_at, kind_at}
 use Rattle.flow_sound.specs.Fitting.{IsByRow, RowsFit}
 use Rattle.flow_sound.specs.Kinds.{IsOfKind, LineFits}
-use Rattle.flow_sound.specs.Promise.{FormsFit, OperatorsFit}
+use Rattle.flow_sound.specs.Promise.{FormsFit, OperatorsFit, ShapedFlow}
 use Rattle.flow_sound.proofs.ByRow.{one_input, row_shape, works_at}
+use Rattle.flow_sound.proofs.KeyedOps.{SuitsWith, WorksByKey, first_input, first_long, keyed_at, keyed_form, keyed_suits}
 use Rattle.flow_sound.proofs.Members.{below_all}
 use Rattle.flow_sound.proofs.Order.{all_nodes, all_outs, leaves_it}
 use Rattle.flow_sound.proofs.Working.{Works, fits_long, targets_are}
@@ -57,47 +59,59 @@ rows_wide fields rows h = all_map (λ (r : Row). row_fits fields r ≡ true) (Wi
 set_passes : (set : List SetSpec) (reject : Bool) (fields : List Field) (parts : OpParts) → ExprsFit fields (kind.Transform set reject) parts → let sets = sets_of set parts.cols parts.exprs in transform_passes (length (input_fields sets)) (targets sets) ≡ transform_passes (length fields) parts.cols
 set_passes set reject fields parts x = ap₂ transform_passes (ap length x.4) (targets_are set parts.cols parts.exprs x.1 x.2)
 
-kind_forms : (o : ℕ) (k : OpKind) (parts : OpParts) (op : Op) (stored : Option Stored) (fields : List Field) → IsOfKind o k parts op → ExprsFit fields k parts → form op ≡ kind_form k parts.keys parts.cols stored (length fields)
-kind_forms o (kind.Import file schema delim fixed reject) parts op stored fields h x = ap form h.3
-kind_forms o (kind.Export file delim fixed) parts op stored fields h x = ap form h.1
-kind_forms o kind.Copy parts op stored fields h x = ap form h
-kind_forms o (kind.Filter test reject) parts op stored fields h x = ap form h
-kind_forms o (kind.Transform set reject) parts op stored fields h x = ap form h ∙ ap passing (set_passes set reject fields parts x)
-kind_forms o (kind.Modify keep drop rename) parts op stored fields h x = ap form h
-kind_forms o (kind.Switch on cases reject) parts op stored fields h x = ap form h
-kind_forms o (kind.Tsort key) parts op stored fields h x = ap form h
-kind_forms o (kind.Remdup key last) parts op stored fields h x = ap form h
-kind_forms o k parts op stored fields h x = absurd h
+-- one by keys
+keyed_kind_form : (o : ℕ) (k : OpKind) (parts : OpParts) (ins : List (List Field)) (op : Op) (stored : Option Stored) (fields : List Field) → IsKeyed k → IsOfKind o k parts (map length ins) op → WorksByKey k ins parts × (first_fields ins ≡ fields) → form op ≡ kind_form k parts.keys parts.cols stored (length fields)
+keyed_kind_form o k parts ins op stored fields b h w = keyed_form o k parts ins op stored b h w.0 ∙ ap (λ (fs : List Field). kind_form k parts.keys parts.cols stored (length fs)) w.1
 
-first_long : (inputs : List (List Field)) → get_or (map length inputs) 0 0 ≡ length (first_fields inputs)
-first_long [] = refl
-first_long (fields ∷ inputs) = refl
+kind_forms : (o : ℕ) (k : OpKind) (parts : OpParts) (ins : List (List Field)) (op : Op) (stored : Option Stored) (fields : List Field) → IsOfKind o k parts (map length ins) op → ExprsFit fields k parts → (IsKeyed k → WorksByKey k ins parts × (first_fields ins ≡ fields)) → form op ≡ kind_form k parts.keys parts.cols stored (length fields)
+kind_forms o (kind.Import file schema delim fixed reject) parts ins op stored fields h x w = ap form h.3
+kind_forms o (kind.Export file delim fixed) parts ins op stored fields h x w = ap form h.1
+kind_forms o kind.Copy parts ins op stored fields h x w = ap form h
+kind_forms o (kind.Filter test reject) parts ins op stored fields h x w = ap form h
+kind_forms o (kind.Transform set reject) parts ins op stored fields h x w = ap form h ∙ ap passing (set_passes set reject fields parts x)
+kind_forms o (kind.Modify keep drop rename) parts ins op stored fields h x w = ap form h
+kind_forms o (kind.Switch on cases reject) parts ins op stored fields h x w = ap form h
+kind_forms o (kind.Tsort key) parts ins op stored fields h x w = ap form h
+kind_forms o (kind.Remdup key last) parts ins op stored fields h x w = ap form h
+kind_forms o (kind.Group key hash results) parts ins op stored fields h x w = keyed_kind_form o (kind.Group key hash results) parts ins op stored fields tt h (w tt)
+kind_forms o (kind.InnerJoin key) parts ins op stored fields h x w = keyed_kind_form o (kind.InnerJoin key) parts ins op stored fields tt h (w tt)
+kind_forms o (kind.LeftOuterJoin key) parts ins op stored fields h x w = keyed_kind_form o (kind.LeftOuterJoin key) parts ins op stored fields tt h (w tt)
+kind_forms o (kind.RightOuterJoin key) parts ins op stored fields h x w = keyed_kind_form o (kind.RightOuterJoin key) parts ins op stored fields tt h (w tt)
+kind_forms o (kind.FullOuterJoin key) parts ins op stored fields h x w = keyed_kind_form o (kind.FullOuterJoin key) parts ins op stored fields tt h (w tt)
+kind_forms o (kind.Lookup key missing) parts ins op stored fields h x w = keyed_kind_form o (kind.Lookup key missing) parts ins op stored fields tt h (w tt)
+kind_forms o k parts ins op stored fields h x w = absurd h
 
--- an operator with inputs of these fields and outputs of these widths
+-- an operator with inputs of these fields
 abbrev Suits : OpKind → List (List Field) → ℕ → Op → Type 0
-Suits k inputs n op = IsShaped op (map length inputs) (λ q. length (output_fields k inputs q)) × FitsPorts op n × KeysDistinct op × ((q : ℕ) → HasPort op q)
+Suits k inputs n op = SuitsWith inputs n (λ q. length (output_fields k inputs q)) op
 
 -- one that works row by row
 by_row_suits : (o : ℕ) (k : OpKind) (parts : OpParts) (op : Op) (n : ℕ) (fields : List Field) (inputs : List (List Field)) → IsByRow k → Works k fields parts → inputs ≡ fields ∷ [] → n ≡ 1 → op ≡ by_row (row_rule o k parts) → Suits k inputs n op
 by_row_suits o k parts op n fields inputs h w one p e =
     subst (λ ins. Suits k ins n op) (sym one) (subst (Suits k (fields ∷ []) n) (sym e) (row_shape o k fields parts h w, p, tt, λ q. tt))
 
-kind_suits : (o : ℕ) (k : OpKind) (parts : OpParts) (op : Op) (stored : Option Stored) (width n : ℕ) (fields : List Field) (inputs : List (List Field)) → IsOfKind o k parts op → FormPorts (kind_form k parts.keys parts.cols stored width) n → (IsByRow k → Works k fields parts × (inputs ≡ fields ∷ [])) → Suits k inputs n op
-kind_suits o (kind.Import file schema delim fixed reject) parts op stored width n fields inputs h p w =
+kind_suits : (o : ℕ) (k : OpKind) (parts : OpParts) (op : Op) (stored : Option Stored) (width n : ℕ) (fields : List Field) (inputs : List (List Field)) → IsOfKind o k parts (map length inputs) op → FormPorts (kind_form k parts.keys parts.cols stored width) n → (IsByRow k → Works k fields parts × (inputs ≡ fields ∷ [])) → (IsKeyed k → WorksByKey k inputs parts) → Suits k inputs n op
+kind_suits o (kind.Import file schema delim fixed reject) parts op stored width n fields inputs h p w y =
     subst (Suits (kind.Import file schema delim fixed reject) inputs n) (sym h.3) (λ q. rows_wide (made_or_rejected schema line_fields q) (flat_map (line_rows q reject) h.0) (lines_fit schema reject h.0 q h.2), p, tt, λ q. tt)
-kind_suits o (kind.Export file delim fixed) parts op stored width n fields inputs h p w =
+kind_suits o (kind.Export file delim fixed) parts op stored width n fields inputs h p w y =
     subst (Suits (kind.Export file delim fixed) inputs n) (sym h.1) (sink_shape (get_or (map length inputs) 0 0) h.0 (λ q. length (first_fields inputs)), p, tt, λ q. tt)
-kind_suits o kind.Copy parts op stored width n fields inputs h p w =
+kind_suits o kind.Copy parts op stored width n fields inputs h p w y =
     subst (Suits kind.Copy inputs n) (sym h) (subst (λ m. RowShape copy_rule (get_or (map length inputs) 0 0) (λ q. m)) (first_long inputs) (copy_shape (get_or (map length inputs) 0 0)), p, tt, λ q. tt)
-kind_suits o (kind.Filter test reject) parts op stored width n fields inputs h p w = by_row_suits o (kind.Filter test reject) parts op n fields inputs tt (w tt).0 (w tt).1 p h
-kind_suits o (kind.Transform set reject) parts op stored width n fields inputs h p w = by_row_suits o (kind.Transform set reject) parts op n fields inputs tt (w tt).0 (w tt).1 p h
-kind_suits o (kind.Modify keep drop rename) parts op stored width n fields inputs h p w = by_row_suits o (kind.Modify keep drop rename) parts op n fields inputs tt (w tt).0 (w tt).1 p h
-kind_suits o (kind.Switch on cases reject) parts op stored width n fields inputs h p w = by_row_suits o (kind.Switch on cases reject) parts op n fields inputs tt (w tt).0 (w tt).1 p h
-kind_suits o (kind.Tsort key) parts op stored width n fields inputs h p w =
+kind_suits o (kind.Filter test reject) parts op stored width n fields inputs h p w y = by_row_suits o (kind.Filter test reject) parts op n fields inputs tt (w tt).0 (w tt).1 p h
+kind_suits o (kind.Transform set reject) parts op stored width n fields inputs h p w y = by_row_suits o (kind.Transform set reject) parts op n fields inputs tt (w tt).0 (w tt).1 p h
+kind_suits o (kind.Modify keep drop rename) parts op stored width n fields inputs h p w y = by_row_suits o (kind.Modify keep drop rename) parts op n fields inputs tt (w tt).0 (w tt).1 p h
+kind_suits o (kind.Switch on cases reject) parts op stored width n fields inputs h p w y = by_row_suits o (kind.Switch on cases reject) parts op n fields inputs tt (w tt).0 (w tt).1 p h
+kind_suits o (kind.Tsort key) parts op stored width n fields inputs h p w y =
     subst (Suits (kind.Tsort key) inputs n) (sym h) (λ q. sym (first_long inputs), p, tt, λ q. tt)
-kind_suits o (kind.Remdup key last) parts op stored width n fields inputs h p w =
+kind_suits o (kind.Remdup key last) parts op stored width n fields inputs h p w y =
     subst (Suits (kind.Remdup key last) inputs n) (sym h) (λ q. sym (first_long inputs), p, tt, λ q. tt)
-kind_suits o k parts op stored width n fields inputs h p w = absurd h
+kind_suits o (kind.Group key hash results) parts op stored width n fields inputs h p w y = keyed_suits o (kind.Group key hash results) parts inputs n op tt h p (y tt)
+kind_suits o (kind.InnerJoin key) parts op stored width n fields inputs h p w y = keyed_suits o (kind.InnerJoin key) parts inputs n op tt h p (y tt)
+kind_suits o (kind.LeftOuterJoin key) parts op stored width n fields inputs h p w y = keyed_suits o (kind.LeftOuterJoin key) parts inputs n op tt h p (y tt)
+kind_suits o (kind.RightOuterJoin key) parts op stored width n fields inputs h p w y = keyed_suits o (kind.RightOuterJoin key) parts inputs n op tt h p (y tt)
+kind_suits o (kind.FullOuterJoin key) parts op stored width n fields inputs h p w y = keyed_suits o (kind.FullOuterJoin key) parts inputs n op tt h p (y tt)
+kind_suits o (kind.Lookup key missing) parts op stored width n fields inputs h p w y = keyed_suits o (kind.Lookup key missing) parts inputs n op tt h p (y tt)
+kind_suits o k parts op stored width n fields inputs h p w y = absurd h
 
 route_fits : (seq : Bool) (width : ℕ) (written : Option Route) → WrittenFits seq width written → RouteFits width (written_or_same written)
 route_fits seq width None h = tt
@@ -110,10 +124,15 @@ route_fits seq width (Some (route.Modulus column)) h = h.1
 route_fits seq width (Some route.Any) h = h.1
 route_fits seq width (Some route.Ordered) h = h.1
 
+-- an operator of a shaped flow, by the fields of its inputs
+pub kind_of : (flow : Flow) (dict : List Stored) (c : Chart) (ops : ℕ → Op) → ShapedFlow flow dict c ops → (o : ℕ) → o < length c.flow.ops → IsOfKind o (op_at c o).kind (parts_of c o) (map length (inputs_at c o)) (ops o)
+kind_of flow dict c ops s o b = subst (λ ws. IsOfKind o (op_at c o).kind (parts_of c o) ws (ops o)) (sym (map_two (fields_at c) length (links_into c o))) (s.kinds o b)
+
 pub forms_fit : FormsFit
 forms_fit flow dict c ops s o i =
     let b = below_all (length c.flow.ops) o c.order s.shape.order.once i in
-    kind_forms o (op_at c o).kind (parts_of c o) (ops o) (get_or c.stored o None) (fields_into c o) (s.kinds o b) (s.shape.ops o b).exprs
+    kind_forms o (op_at c o).kind (parts_of c o) (inputs_at c o) (ops o) (get_or c.stored o None) (fields_into c o) (kind_of flow dict c ops s o b) (s.shape.ops o b).exprs
+    (λ h. let w = keyed_at flow dict c s.shape s.shape_of o b h in (w, first_input c o h w))
 
 -- what its producer gives on a link
 pub given_there : (c : Chart) (o l : ℕ) → Fits c o → l < length c.flow.links → (link_at c l).from ≡ o → fields_at c l ≡ output_fields (kind_at c o) (inputs_at c o) (link_at c l).out
@@ -126,7 +145,7 @@ operators_fit flow dict c ops s = all_nodes (FitsShape (width_at c)) c ops node
     node o i =
         let b = below_all (length c.flow.ops) o c.order s.shape.order.once i in
         let ports = (s.shape.ops o b).inputs in
-        let suits = kind_suits o (op_at c o).kind (parts_of c o) (ops o) (get_or c.stored o None) (first_width c o) (length (links_into c o)) (fields_into c o) (inputs_at c o) (s.kinds o b) ports (λ h. (works_at flow dict c s.shape s.shape_of o b h, one_input c o s.shape b h)) in
+        let suits = kind_suits o (op_at c o).kind (parts_of c o) (ops o) (get_or c.stored o None) (first_width c o) (length (links_into c o)) (fields_into c o) (inputs_at c o) (kind_of flow dict c ops s o b) ports (λ h. (works_at flow dict c s.shape s.shape_of o b h, one_input c o s.shape b h)) (keyed_at flow dict c s.shape s.shape_of o b) in
         let widths = map_two (fields_at c) length (links_into c o) in (
           λ q. length (output_fields (kind_at c o) (inputs_at c o) q),
           subst (λ ws. IsShaped (ops o) ws (λ q. length (output_fields (kind_at c o) (inputs_at c o) q))) widths suits.0,

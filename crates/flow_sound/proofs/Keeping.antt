@@ -16,9 +16,7 @@ use Rattle.flow_graph.specs.Charts.{Chart, first_width, kind_form, link_at, link
 use Rattle.flow_graph.specs.FlowShape.{FormPorts, IsShape}
 use Rattle.flow_graph.specs.Forms.{form}
 use Rattle.flow_graph.specs.Operators.{Op, by_row, faults}
-use Rattle.flow_graph.specs.RowRules.{row_rule}
 use Rattle.flow_graph.specs.Runs.{InsertedFrom, Lists, Node, Out}
-use Rattle.flow_rules.specs.Exports.{IsExport, input_of}
 use Rattle.flow_rules.specs.Needs.{missed}
 use Rattle.flow_rules.specs.Soundness.{Accepted as MissesNothing, Keeps, Sound}
 use Rattle.flow_derive.specs.LinkStates.{state_at}
@@ -29,10 +27,10 @@ use Rattle.flow_rules.proofs.Ends.{sink_meets}
 use Rattle.flow_rules.proofs.FlowAll.{faults_all, flow_all}
 use Rattle.flow_rules.proofs.LawProofs.{sinks_meet}
 use Rattle.flow_rules.proofs.VerdictLaws.{accepted_derives, accepted_inserts, accepted_meets}
-use Rattle.flow_sound.specs.Fitting.{IsByRow}
-use Rattle.flow_sound.specs.Kinds.{IsOfKind}
+use Rattle.flow_rules.specs.Exports.{IsExport, input_of}
+use Rattle.flow_sound.specs.Kinds.{IsOfKind, widths_into}
 use Rattle.flow_sound.specs.Promise.{AcceptedRun, AcceptedRunsKeep, ShapedFlow, sort_at}
-use Rattle.flow_sound.proofs.ByRow.{into_by_row, link_there, one_link}
+use Rattle.flow_sound.proofs.ByRow.{link_there, one_link}
 use Rattle.flow_sound.proofs.Fitting.{forms_fit, operators_fit}
 use Rattle.flow_sound.proofs.Members.{below_all, in_all}
 use Rattle.flow_sound.proofs.Order.{goes_forward, is_from, node_has, out_has, producer_in}
@@ -55,9 +53,9 @@ run_sound regains flow dict c states choices ops whole run a = record {
     forms = forms_fit flow dict c ops s
 
 -- an export, and the one link into it
-pub export_is : (o : ℕ) (k : OpKind) (parts : OpParts) (op : Op) → IsExport k → IsOfKind o k parts op → (unwritable : Row → List Fault) × (op ≡ by_row (sink_rule unwritable))
-export_is o (kind.Export file delim fixed) parts op e h = h
-export_is o k parts op e h = absurd e
+pub export_is : (o : ℕ) (k : OpKind) (parts : OpParts) (widths : List ℕ) (op : Op) → IsExport k → IsOfKind o k parts widths op → (unwritable : Row → List Fault) × (op ≡ by_row (sink_rule unwritable))
+export_is o (kind.Export file delim fixed) parts widths op e h = h
+export_is o k parts widths op e h = absurd e
 
 one_port : (k : OpKind) (parts : OpParts) (stored : Option Stored) (width n : ℕ) → IsExport k → FormPorts (kind_form k parts.keys parts.cols stored width) n → n ≡ 1
 one_port (kind.Export file delim fixed) parts stored width n e h = h
@@ -68,14 +66,6 @@ into_export c o s b e = one_link (links_into c o) (one_port (op_at c o).kind (pa
 
 pub export_link : (c : Chart) (o : ℕ) → IsShape c → o < length c.flow.ops → IsExport (op_at c o).kind → input_of c o < length c.flow.links
 export_link c o s b e = link_there c o (into_export c o s b e)
-
--- an operator that works row by row
-pub by_row_is : (o : ℕ) (k : OpKind) (parts : OpParts) (op : Op) → IsByRow k → IsOfKind o k parts op → op ≡ by_row (row_rule o k parts)
-by_row_is o (kind.Filter test reject) parts op w h = h
-by_row_is o (kind.Transform set reject) parts op w h = h
-by_row_is o (kind.Modify keep drop rename) parts op w h = h
-by_row_is o (kind.Switch on cases reject) parts op w h = h
-by_row_is o k parts op w h = absurd w
 
 -- no sort but the one that an input needs, and no part of a need missed
 abbrev AtInputs : Chart → List State → Op → List ℕ → Type 0
@@ -115,14 +105,8 @@ ruled_bag c states whole run o rule t = (sink_meets rule (width_at c) (sort_at c
 
 pub export_bag : (regains : Bool) (flow : Flow) (dict : List Stored) (c : Chart) (states : List State) (choices : List Choice) (ops : ℕ → Op) (whole : ℕ → List Row) (run : Lists) → AcceptedRun regains flow dict c states choices ops whole run → (o : ℕ) → o < length c.flow.ops → IsExport (op_at c o).kind → Bag (run.got (input_of c o)) (whole (input_of c o))
 export_bag regains flow dict c states choices ops whole run a o b e =
-    let x = export_is o (op_at c o).kind (parts_of c o) (ops o) e (a.shaped.kinds o b) in
+    let x = export_is o (op_at c o).kind (parts_of c o) (widths_into c o) (ops o) e (a.shaped.kinds o b) in
     ruled_bag c states whole run o (sink_rule x.0) (is_ruled regains flow dict c states choices ops whole run a o b (sink_rule x.0) x.1 (into_export c o a.shaped.shape b e))
-
-pub work_bag : (regains : Bool) (flow : Flow) (dict : List Stored) (c : Chart) (states : List State) (choices : List Choice) (ops : ℕ → Op) (whole : ℕ → List Row) (run : Lists) → AcceptedRun regains flow dict c states choices ops whole run → (o : ℕ) → o < length c.flow.ops → IsByRow (op_at c o).kind → Bag (run.got (input_of c o)) (whole (input_of c o))
-work_bag regains flow dict c states choices ops whole run a o b w =
-    let k = (op_at c o).kind in
-    let rule = row_rule o k (parts_of c o) in
-    ruled_bag c states whole run o rule (is_ruled regains flow dict c states choices ops whole run a o b rule (by_row_is o k (parts_of c o) (ops o) w (a.shaped.kinds o b)) (into_by_row c o a.shaped.shape b w))
 
 pub run_keeps : AcceptedRunsKeep
 run_keeps regains flow dict c states choices ops whole run a = record {
@@ -130,7 +114,7 @@ run_keeps regains flow dict c states choices ops whole run a = record {
   counts = λ l b. (run_links regains flow dict c states choices ops whole run a l b).counted;
   faults = faults_all regains (nodes_of c ops) (width_at c) (sort_at c) (state_at states) whole run (run_sound regains flow dict c states choices ops whole run a);
   sinks = λ o b e.
-      let x = export_is o (op_at c o).kind (parts_of c o) (ops o) e (a.shaped.kinds o b) in
+      let x = export_is o (op_at c o).kind (parts_of c o) (widths_into c o) (ops o) e (a.shaped.kinds o b) in
       let t = is_ruled regains flow dict c states choices ops whole run a o b (sink_rule x.0) x.1 (into_export c o a.shaped.shape b e) in
       sinks_meet (sink_rule x.0) (width_at c) (sort_at c) (state_at states) whole run (input_of c o) t.met.0 t.met.1.0 t.keeps;
 }

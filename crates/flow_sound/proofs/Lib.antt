@@ -4,8 +4,17 @@ pub mod Meaning
 pub mod TypedTrees
 pub mod Assigned
 pub mod SetRows
+pub mod Picking
 pub mod Working
 pub mod ByRow
+pub mod ByKeys
+pub mod Permuted
+pub mod GroupBounds
+pub mod GroupResults
+pub mod Groups
+pub mod Joins
+pub mod Lookups
+pub mod KeyedOps
 pub mod Fitting
 pub mod Keeping
 pub mod Tallying

@@ -1,5 +1,5 @@
 -- What operators give of rows that fit, fits.
-use Rattle.std.proofs.Common.{◌≡◌, ℕ, true, inl, refl, List, [], ◌∷◌, map, sym, subst, length, flat_map}
+use Rattle.std.proofs.Common.{◌≡◌, ℕ, zero, suc, true, inl, inr, refl, List, [], ◌∷◌, map, sym, subst, length, flat_map}
 use Rattle.ds_schema.specs.declared.schema.Field.{Field}
 use Rattle.ds_schema.specs.Schemas.{row_fits}
 use Rattle.op_base.specs.Columns.{IsIn, Row}
@@ -16,14 +16,15 @@ use Rattle.flow_graph.specs.Operators.{Op, by_row, result}
 use Rattle.flow_graph.specs.RowRules.{row_rule}
 use Rattle.flow_graph.specs.Runs.{Means, Out}
 use Rattle.flow_graph.proofs.PartLaws.{parts_all}
-use Rattle.op_shape.specs.Options.{first_fields, output_fields}
+use Rattle.flow_rules.specs.Exports.{input_of}
+use Rattle.op_shape.specs.Options.{IsKeyed, first_fields, output_fields}
 use Rattle.flow_shape.specs.Refusals.{fields_at, inputs_at}
 use Rattle.flow_sound.specs.Fitting.{ExportsFit, IsByRow, MeaningFits, RowsFit}
-use Rattle.flow_rules.specs.Exports.{input_of}
 use Rattle.flow_sound.specs.Kinds.{IsOfKind}
 use Rattle.flow_sound.proofs.ByRow.{one_input, rows_fit, works_at}
-use Rattle.flow_sound.proofs.Fitting.{given_there, lines_fit}
+use Rattle.flow_sound.proofs.Fitting.{given_there, kind_of, lines_fit}
 use Rattle.flow_sound.proofs.Keeping.{export_bag, export_link}
+use Rattle.flow_sound.proofs.KeyedOps.{EachFits, WorksByKey, keyed_at, keyed_gives}
 use Rattle.flow_sound.proofs.Members.{below_all}
 use Rattle.flow_sound.proofs.Order.{along_order, leaves_it, node_has, out_has}
 use Rattle.flow_sound.proofs.Working.{Works}
@@ -39,26 +40,33 @@ by_row_fits o k parts op first fields inputs q h w one e f =
     (subst (λ (p : Op). RowsFit (output_fields k (first ∷ []) q) (result p q inputs)) (sym e)
     (each_fit first (output_fields k (first ∷ []) q) ((row_rule o k parts).rows q) (rows_fit o k first parts h w q) (input 0 inputs) (subst (λ ins. RowsFit (first_fields ins) (input 0 inputs)) one f)))
 
-result_fits : (o : ℕ) (k : OpKind) (parts : OpParts) (op : Op) (first : List Field) (fields : List (List Field)) (inputs : List (List Row)) (q : ℕ) → IsOfKind o k parts op → (IsByRow k → Works k first parts × (fields ≡ first ∷ [])) → RowsFit (first_fields fields) (input 0 inputs) → RowsFit (output_fields k fields q) (result op q inputs)
-result_fits o (kind.Import file schema delim fixed reject) parts op first fields inputs q h w f =
+result_fits : (o : ℕ) (k : OpKind) (parts : OpParts) (op : Op) (first : List Field) (fields : List (List Field)) (inputs : List (List Row)) (q : ℕ) → IsOfKind o k parts (map length fields) op → (IsByRow k → Works k first parts × (fields ≡ first ∷ [])) → (IsKeyed k → WorksByKey k fields parts) → EachFits fields inputs → RowsFit (output_fields k fields q) (result op q inputs)
+result_fits o (kind.Import file schema delim fixed reject) parts op first fields inputs q h w y f =
     subst (λ (p : Op). RowsFit (output_fields (kind.Import file schema delim fixed reject) fields q) (result p q inputs)) (sym h.3) (lines_fit schema reject h.0 q h.2)
-result_fits o (kind.Export file delim fixed) parts op first fields inputs q h w f =
+result_fits o (kind.Export file delim fixed) parts op first fields inputs q h w y f =
     subst (λ (p : Op). RowsFit (first_fields fields) (result p q inputs)) (sym h.1) (all_flat_each (λ (r : Row). row_fits (first_fields fields) r ≡ true) (λ r. []) (λ r. tt) (input 0 inputs))
-result_fits o kind.Copy parts op first fields inputs q h w f =
-    subst (λ (p : Op). RowsFit (first_fields fields) (result p q inputs)) (sym h) (each_fit (first_fields fields) (first_fields fields) (λ r. r ∷ []) (λ r e. (e, tt)) (input 0 inputs) f)
-result_fits o (kind.Filter test reject) parts op first fields inputs q h w f = by_row_fits o (kind.Filter test reject) parts op first fields inputs q tt (w tt).0 (w tt).1 h f
-result_fits o (kind.Transform set reject) parts op first fields inputs q h w f = by_row_fits o (kind.Transform set reject) parts op first fields inputs q tt (w tt).0 (w tt).1 h f
-result_fits o (kind.Modify keep drop rename) parts op first fields inputs q h w f = by_row_fits o (kind.Modify keep drop rename) parts op first fields inputs q tt (w tt).0 (w tt).1 h f
-result_fits o (kind.Switch on cases reject) parts op first fields inputs q h w f = by_row_fits o (kind.Switch on cases reject) parts op first fields inputs q tt (w tt).0 (w tt).1 h f
-result_fits o (kind.Tsort key) parts op first fields inputs q h w f =
-    subst (λ (p : Op). RowsFit (first_fields fields) (result p q inputs)) (sym h) (by_key_all (get_keys parts.keys 0) (λ same. same) (λ P rows all. all) (λ (r : Row). row_fits (first_fields fields) r ≡ true) (input 0 inputs) f)
-result_fits o (kind.Remdup key last) parts op first fields inputs q h w f =
-    subst (λ (p : Op). RowsFit (first_fields fields) (result p q inputs)) (sym h) (by_key_all (get_keys parts.keys 0) (one_row last) (one_row_all last) (λ (r : Row). row_fits (first_fields fields) r ≡ true) (input 0 inputs) f)
-result_fits o k parts op first fields inputs q h w f = absurd h
+result_fits o kind.Copy parts op first fields inputs q h w y f =
+    subst (λ (p : Op). RowsFit (first_fields fields) (result p q inputs)) (sym h) (each_fit (first_fields fields) (first_fields fields) (λ r. r ∷ []) (λ r e. (e, tt)) (input 0 inputs) (f 0))
+result_fits o (kind.Filter test reject) parts op first fields inputs q h w y f = by_row_fits o (kind.Filter test reject) parts op first fields inputs q tt (w tt).0 (w tt).1 h (f 0)
+result_fits o (kind.Transform set reject) parts op first fields inputs q h w y f = by_row_fits o (kind.Transform set reject) parts op first fields inputs q tt (w tt).0 (w tt).1 h (f 0)
+result_fits o (kind.Modify keep drop rename) parts op first fields inputs q h w y f = by_row_fits o (kind.Modify keep drop rename) parts op first fields inputs q tt (w tt).0 (w tt).1 h (f 0)
+result_fits o (kind.Switch on cases reject) parts op first fields inputs q h w y f = by_row_fits o (kind.Switch on cases reject) parts op first fields inputs q tt (w tt).0 (w tt).1 h (f 0)
+result_fits o (kind.Tsort key) parts op first fields inputs q h w y f =
+    subst (λ (p : Op). RowsFit (first_fields fields) (result p q inputs)) (sym h) (by_key_all (get_keys parts.keys 0) (λ same. same) (λ P rows all. all) (λ (r : Row). row_fits (first_fields fields) r ≡ true) (input 0 inputs) (f 0))
+result_fits o (kind.Remdup key last) parts op first fields inputs q h w y f =
+    subst (λ (p : Op). RowsFit (first_fields fields) (result p q inputs)) (sym h) (by_key_all (get_keys parts.keys 0) (one_row last) (one_row_all last) (λ (r : Row). row_fits (first_fields fields) r ≡ true) (input 0 inputs) (f 0))
+result_fits o (kind.Group key hash results) parts op first fields inputs q h w y f = (keyed_gives o (kind.Group key hash results) parts fields op q inputs tt h (y tt) f).0
+result_fits o (kind.InnerJoin key) parts op first fields inputs q h w y f = (keyed_gives o (kind.InnerJoin key) parts fields op q inputs tt h (y tt) f).0
+result_fits o (kind.LeftOuterJoin key) parts op first fields inputs q h w y f = (keyed_gives o (kind.LeftOuterJoin key) parts fields op q inputs tt h (y tt) f).0
+result_fits o (kind.RightOuterJoin key) parts op first fields inputs q h w y f = (keyed_gives o (kind.RightOuterJoin key) parts fields op q inputs tt h (y tt) f).0
+result_fits o (kind.FullOuterJoin key) parts op first fields inputs q h w y f = (keyed_gives o (kind.FullOuterJoin key) parts fields op q inputs tt h (y tt) f).0
+result_fits o (kind.Lookup key missing) parts op first fields inputs q h w y f = (keyed_gives o (kind.Lookup key missing) parts fields op q inputs tt h (y tt) f).0
+result_fits o k parts op first fields inputs q h w y f = absurd h
 
-first_fit : (fields : ℕ → List Field) (whole : ℕ → List Row) (ls : List ℕ) → ((l : ℕ) → IsIn l ls → RowsFit (fields l) (whole l)) → RowsFit (first_fields (map fields ls)) (input 0 (map whole ls))
-first_fit fields whole [] h = tt
-first_fit fields whole (l ∷ ls) h = h l (inl refl)
+links_fit : (fields : ℕ → List Field) (whole : ℕ → List Row) (ls : List ℕ) → ((l : ℕ) → IsIn l ls → RowsFit (fields l) (whole l)) → EachFits (map fields ls) (map whole ls)
+links_fit fields whole [] h i = tt
+links_fit fields whole (l ∷ ls) h zero = h l (inl refl)
+links_fit fields whole (l ∷ ls) h (suc i) = links_fit fields whole ls (λ k j. h k (inr j)) i
 
 pub meaning_fits : MeaningFits
 meaning_fits flow dict c ops whole s m = along_order (λ l. RowsFit (fields_at c l) (whole l)) c s.shape step
@@ -69,8 +77,8 @@ meaning_fits flow dict c ops whole s m = along_order (λ l. RowsFit (fields_at c
         let leaves = leaves_it c o l j in
         subst (λ fs. RowsFit fs (whole l)) (sym (given_there c o l (s.shape_of.schemas.fits o b) leaves.1 leaves.0))
         (subst (RowsFit (output_fields (op_at c o).kind (inputs_at c o) (link_at c l).out)) (sym (out_has (λ (q : Out). whole q.link ≡ result (ops o) q.port (map whole (links_into c o))) c o l (node_has (Means whole) c ops o m i) j))
-        (result_fits o (op_at c o).kind (parts_of c o) (ops o) (fields_into c o) (inputs_at c o) (map whole (links_into c o)) (link_at c l).out (s.kinds o b) (λ w. (works_at flow dict c s.shape s.shape_of o b w, one_input c o s.shape b w))
-        (first_fit (fields_at c) whole (links_into c o) h)))
+        (result_fits o (op_at c o).kind (parts_of c o) (ops o) (fields_into c o) (inputs_at c o) (map whole (links_into c o)) (link_at c l).out (kind_of flow dict c ops s o b) (λ w. (works_at flow dict c s.shape s.shape_of o b w, one_input c o s.shape b w))
+        (keyed_at flow dict c s.shape s.shape_of o b) (links_fit (fields_at c) whole (links_into c o) h)))
 
 pub exports_fit : ExportsFit
 exports_fit regains flow dict c states choices ops whole run a o b e =

@@ -1,11 +1,10 @@
 -- What the operators by rows of a shaped flow make of a row.
-use Rattle.std.proofs.Common.{◌≡◌, ◌<◌, ℕ, zero, suc, not, Bool, true, List, [], ◌∷◌, length, map, refl, sym, ap, subst, ◌∙◌, arith, Option, Some, None, Result, Ok, Err}
+use Rattle.std.proofs.Common.{◌≡◌, ℕ, suc, not, Bool, true, List, [], ◌∷◌, length, map, refl, sym, ap, subst, ◌∙◌, arith, Option, Some, None, Result, Ok, Err}
 use Rattle.std.specs.Prelude.{if◌then◌else◌, ⊤}
 use Rattle.std.specs.List.{AllByRecursion}
 use Rattle.ds_value.specs.declared.value.Value.{Value}
 use Rattle.ds_value.specs.declared.value.Value.TheVariants as value
 use Rattle.ds_schema.specs.declared.schema.Field.{Field}
-use Rattle.ds_schema.specs.Rows.{at, val}
 use Rattle.ds_schema.specs.Schemas.{IsSchema, fits_field, row_fits}
 use Rattle.expr_table.specs.declared.arg.Arg.{Arg}
 use Rattle.expr_table.specs.declared.arg.EvalFault.{EvalFault}
@@ -35,11 +34,12 @@ use Rattle.flow_graph.specs.RowRules.{ExprsFit, sets_of}
 use Rattle.op_shape.specs.declared.fault.ShapeWhy.TheVariants as why
 use Rattle.op_shape.proofs.Firsts.{none_head}
 use Rattle.op_shape.specs.Causes.{first_cause}
-use Rattle.op_shape.specs.Columns.{field_at, renamed, set_columns, set_fields}
+use Rattle.op_shape.specs.Columns.{renamed, set_columns, set_fields}
 use Rattle.op_shape.specs.Exprs.{expr_cause, expr_over, is_set, read_over, set_causes, some_tree, suits, tree_over, typed_text}
 use Rattle.op_shape.specs.Options.{operator_parts, option_causes}
 use Rattle.flow_sound.proofs.Assigned.{assigned_fits}
-use Rattle.flow_sound.proofs.SetRows.{FitEach, both, set_fits}
+use Rattle.flow_sound.proofs.Picking.{Widens}
+use Rattle.flow_sound.proofs.SetRows.{FitEach, set_fits}
 use Rattle.flow_sound.proofs.TypedTrees.{typed_sound}
 
 -- a modify's columns are columns of its input
@@ -153,23 +153,13 @@ fits_long (f ∷ fields) [] e = cc
 fits_long (f ∷ fields) (v ∷ r) e = ap suc (fits_long fields r (both_true (fits_field f v) (row_fits fields r) e).1)
 
 -- a new name changes nothing
-renamed_fits : (rename : List (List ℕ × List ℕ)) (f : Field) (v : Value) → fits_field f v ≡ true → fits_field (renamed rename f) v ≡ true
+pub renamed_fits : (rename : List (List ℕ × List ℕ)) → Widens (renamed rename)
 renamed_fits rename f value.Null e = e
 renamed_fits rename f (value.Int z) e = e
 renamed_fits rename f (value.UInt n) e = e
 renamed_fits rename f (value.Dec z) e = e
 renamed_fits rename f (value.Text b) e = e
 renamed_fits rename f (value.Date d) e = e
-
-column_fits : (fields : List Field) (r : Row) (c : ℕ) → row_fits fields r ≡ true → c < length fields → fits_field (field_at fields c) (at r c) ≡ true
-column_fits [] r c e l = absurd (omega (arith, l))
-column_fits (f ∷ fields) [] c e l = cc
-column_fits (f ∷ fields) (v ∷ r) zero e l = (both_true (fits_field f v) (row_fits fields r) e).0
-column_fits (f ∷ fields) (v ∷ r) (suc c) e l = column_fits fields r c (both_true (fits_field f v) (row_fits fields r) e).1 (omega (arith, l))
-
-pub kept_fit : (fields : List Field) (rename : List (List ℕ × List ℕ)) (r : Row) (cols : List ℕ) → row_fits fields r ≡ true → AllByRecursion (λ c. c < length fields) cols → row_fits (map (renamed rename) (map (field_at fields) cols)) (val cols r) ≡ true
-kept_fit fields rename r [] e h = refl
-kept_fit fields rename r (c ∷ cols) e h = both (renamed_fits rename (field_at fields c) (at r c) (column_fits fields r c e h.0)) (kept_fit fields rename r cols e h.1)
 
 pub set_row_fits : (set : List SetSpec) (reject : Bool) (fields : List Field) (parts : OpParts) (r : Row) → Works (kind.Transform set reject) fields parts → row_fits fields r ≡ true
     → let sets = sets_of set parts.cols parts.exprs in Fit (set_fields fields set) (set_rows (width_after (length (input_fields sets)) (targets sets)) (targets sets) (compute sets r) r)

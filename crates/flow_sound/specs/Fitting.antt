@@ -3,21 +3,28 @@ use Rattle.std.specs.Prelude.{◌≡◌, ◌<◌, ℕ, Bool, true, List, length,
 use Rattle.std.specs.List.{AllByRecursion}
 use Rattle.ds_schema.specs.declared.schema.Field.{Field}
 use Rattle.ds_schema.specs.Schemas.{row_fits}
-use Rattle.op_base.specs.Columns.{Row}
+use Rattle.ds_schema.specs.Rows.{ways}
+use Rattle.op_base.specs.Columns.{Lies, Row, all_columns}
+use Rattle.op_base.specs.Keyed.{get_keys}
 use Rattle.flow_graph.specs.declared.flow.Flow.{Flow}
+use Rattle.flow_graph.specs.declared.parts.OpParts.{OpParts}
 use Rattle.flow_graph.specs.declared.parts.Stored.{Stored}
 use Rattle.flow_graph.specs.declared.route.Choice.{Choice}
 use Rattle.flow_graph.specs.declared.state.State.{State}
 use Rattle.flow_graph.specs.declared.op_kind.OpKind.{OpKind}
 use Rattle.flow_graph.specs.declared.op_kind.OpKind.TheVariants as kind
-use Rattle.flow_graph.specs.Charts.{Chart, op_at}
+use Rattle.flow_graph.specs.Charts.{Chart, first_fields, op_at, parts_of}
 use Rattle.flow_graph.specs.Fitting.{KeepsFields}
 use Rattle.flow_graph.specs.FlowShape.{IsShape}
 use Rattle.flow_graph.specs.Operators.{Op}
 use Rattle.flow_graph.specs.Runs.{Lists, Means}
-use Rattle.flow_rules.specs.Exports.{IsExport, input_of}
+use Rattle.flow_ops.specs.Keyed.{aggs_of}
+use Rattle.flow_ops.specs.Kept.{GivesFields, SumsFit}
 use Rattle.flow_rules.specs.Verdicts.{nodes_of}
+use Rattle.op_shape.specs.Options.{IsKeyed}
 use Rattle.flow_shape.specs.Refusals.{IsShapeOf, fields_at}
+use Rattle.flow_rules.specs.Exports.{IsExport, input_of}
+use Rattle.flow_sound.specs.Kinds.{IsOfKind, widths_into}
 use Rattle.flow_sound.specs.Promise.{AcceptedRun, ShapedFlow}
 
 -- each row fits these fields
@@ -45,3 +52,18 @@ IsByRow k = ⊥
 -- Such an operator of a shaped flow makes rows that fit of rows that fit.
 abbrev pub RowsStay : Type 0
 RowsStay = (flow : Flow) (dict : List Stored) (c : Chart) → IsShape c → IsShapeOf flow dict c → (o : ℕ) → o < length c.flow.ops → IsByRow (op_at c o).kind → KeepsFields c o
+
+-- what a run asks of the columns of a group, a join or a lookup: those of a group's results lie in its input, and what it sums can be summed; the key lists of two inputs are of one length, and a key descends on both or on neither
+abbrev pub ColumnsSuit : List Field → OpKind → OpParts → Type 0
+ColumnsSuit fields (kind.Group key hash results) parts = Lies parts.cols (all_columns (length fields)) × AllByRecursion (SumsFit fields) (aggs_of results parts.cols)
+ColumnsSuit fields (kind.InnerJoin key) parts = ways (get_keys parts.keys 0) ≡ ways (get_keys parts.keys 1)
+ColumnsSuit fields (kind.LeftOuterJoin key) parts = ways (get_keys parts.keys 0) ≡ ways (get_keys parts.keys 1)
+ColumnsSuit fields (kind.RightOuterJoin key) parts = ways (get_keys parts.keys 0) ≡ ways (get_keys parts.keys 1)
+ColumnsSuit fields (kind.FullOuterJoin key) parts = ways (get_keys parts.keys 0) ≡ ways (get_keys parts.keys 1)
+ColumnsSuit fields (kind.Lookup key missing) parts = ways (get_keys parts.keys 0) ≡ ways (get_keys parts.keys 1)
+ColumnsSuit fields k parts = ⊤
+
+-- A group, a join or a lookup of a shaped flow has such columns, and what a partition of it gives of rows that fit, fits.
+abbrev pub KeyedRowsStay : Type 0
+KeyedRowsStay = (flow : Flow) (dict : List Stored) (c : Chart) → IsShape c → IsShapeOf flow dict c → (o : ℕ) → o < length c.flow.ops → IsKeyed (op_at c o).kind →
+    ColumnsSuit (first_fields c o) (op_at c o).kind (parts_of c o) × ((op : Op) → IsOfKind o (op_at c o).kind (parts_of c o) (widths_into c o) op → GivesFields c o op)

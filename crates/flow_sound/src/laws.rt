@@ -1,9 +1,9 @@
 //! The laws of flows of the operators that are built. Each function's contract is its law, and
 //! calling it does nothing.
 
-ghost use Rattle.flow_sound.specs.Fitting.{ExportsFit, MeaningFits, RowsStay};
+ghost use Rattle.flow_sound.specs.Fitting.{ExportsFit, KeyedRowsStay, MeaningFits, RowsStay};
 ghost use Rattle.flow_sound.specs.Promise.{HasMeaning, HasOneMeaning, FormsFit, OperatorsFit, AcceptedRunsKeep};
-ghost use Rattle.flow_sound.specs.Tallies.{ExportIsTallied, MeaningIsTallied, PartitionsAreTallied, RunIsTallied, WorkIsTallied};
+ghost use Rattle.flow_sound.specs.Tallies.{ExportIsTallied, RunIsTallied};
 
 /// A shaped flow has one meaning: the whole list on each link.
 pub fn flows_mean()
@@ -25,16 +25,13 @@ pub fn accepted_runs_keep()
     ensures { AcceptedRunsKeep }
 {}
 
-/// The faults of the meaning are those of its imports, of its operators by rows and of its
-/// exports, counted by the numbers of the operators; those of the last two are found in the rows
-/// of a run as in the whole, and what the partitions of a run failed with is what its operators
-/// by rows fail with.
+/// The faults of a run are those of its imports, what the partitions of the operators between
+/// imports and exports failed with, and those of its exports over all rows that came at them,
+/// counted by the numbers of the operators. They are the faults of the meaning, and so are those
+/// of each export.
 pub fn faults_are_tallied()
-    ensures meaning { MeaningIsTallied }
     ensures run { RunIsTallied }
     ensures export { ExportIsTallied }
-    ensures partitions { PartitionsAreTallied }
-    ensures work { WorkIsTallied }
 {}
 
 /// Rows fit the schema of their link: those of the meaning, and those that come at exports.
@@ -43,7 +40,9 @@ pub fn rows_fit_schemas()
     ensures exports { ExportsFit }
 {}
 
-/// Filter, transform, modify and switch make rows that fit of rows that fit.
+/// Filter, transform, modify and switch make rows that fit of rows that fit. So do groups, joins
+/// and lookups, partition by partition, and their columns are such as a run asks.
 pub fn rows_stay()
-    ensures { RowsStay }
+    ensures by_row { RowsStay }
+    ensures by_key { KeyedRowsStay }
 {}

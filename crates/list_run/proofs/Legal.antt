@@ -1,100 +1,92 @@
 -- The lists are a legal run.
-use Rattle.std.proofs.Common.{◌≡◌, ℕ, ◌<◌, Bool, true, false, cond, refl, sym, ap, ◌∙◌, subst, List, [], ◌∷◌, inl, inr, map, length, get_or, take, arith}
+use Rattle.std.proofs.Common.{◌≡◌, ℕ, ◌<◌, Bool, true, false, cond, refl, sym, ap, ap₂, ◌∙◌, subst, List, [], ◌∷◌, ◌++◌, inl, inr, map, length, get_or, take, arith}
 use Rattle.std.specs.List.{AllByRecursion, flat_map, range_with_len}
 use Rattle.std.specs.List.Sorted.{IsPermutation}
 use Rattle.std.proofs.lemmas.List.Sorted.{IsPermutation-sym}
-use Rattle.std.proofs.lemmas.List.Folds.{flat_map-map}
 use Rattle.std.proofs.lemmas.List.{ext_get_or}
 use Rattle.std.proofs.lemmas.List.FromFn.{length-map-range_with_len, get_or-map-range_with_len}
 use Rattle.op_base.specs.declared.fault.Fault.{Fault}
 use Rattle.op_base.specs.Columns.{Row, IsIn}
 use Rattle.op_base.specs.Lists.{joined}
-use Rattle.op_base.specs.Keyed.{get_keys}
-use Rattle.op_base.specs.RowOperators.{copy_rule}
 use Rattle.flow_graph.specs.declared.op_kind.OpKind.{OpKind}
 use Rattle.flow_graph.specs.declared.op_kind.OpKind.TheVariants as kind
+use Rattle.flow_graph.specs.declared.parts.OpParts.{OpParts}
 use Rattle.flow_graph.specs.declared.route.Choice.{Choice}
-use Rattle.flow_graph.specs.Charts.{Chart, link_at, all_links, links_into, links_from, op_at, keys_at, parts_of, is_seq, into_seq}
+use Rattle.flow_graph.specs.Charts.{Chart, link_at, all_links, links_into, links_from, op_at, parts_of, is_seq, into_seq}
 use Rattle.flow_graph.specs.FlowShape.{IsShape}
-use Rattle.flow_graph.specs.Operators.{Op, import, by_row, tsort, remdup, result}
-use Rattle.flow_graph.specs.RowRules.{if_worked, row_rule}
+use Rattle.flow_graph.specs.Operators.{Op, import, result}
 use Rattle.flow_graph.specs.Runs.{Lists, Runs, Gives, Delivers, FitsDegree, faults_on, slice}
-use Rattle.flow_graph.proofs.StateLaws.{each_part}
 use Rattle.flow_derive.specs.LinkStates.{choice_at}
 use Rattle.flow_rules.specs.Exports.{input_of}
 use Rattle.flow_rules.specs.Verdicts.{node_at, out_at}
+use Rattle.flow_ops.specs.Kept.{if_between}
 use Rattle.list_run.specs.declared.held.Held.{Held}
 use Rattle.list_run.specs.declared.ran.Ran.{Ran}
-use Rattle.list_run.specs.Found.{found_in}
-use Rattle.list_run.specs.Held.{found_at, sent_by, sent_from}
-use Rattle.list_run.specs.Made.{made}
+use Rattle.list_run.specs.Found.{found_by, found_of}
+use Rattle.list_run.specs.Held.{found_at, inputs_of, sent_by, sent_from}
+use Rattle.list_run.specs.Made.{degree_of, made_by, made_of, op_by}
 use Rattle.list_run.specs.Routed.{Joins, routed}
-use Rattle.list_run.specs.Runnable.{degree_at, row_count, IsBuilt, IsRunnable, IsRunOf, OpIs, OpsAre, worked_faults}
+use Rattle.list_run.specs.Runnable.{degree_at, row_count, widths_into, IsBuilt, IsRunnable, IsRunOf, OpIs, OpsAre, worked_faults}
 use Rattle.list_run.specs.Turns.{HadTurn, Stands, found_after, got_in, sent_in}
-use Rattle.list_run.proofs.Dealing.{map_same}
-use Rattle.list_run.proofs.Inputs.{ports_at}
-use Rattle.list_run.proofs.Links.{all_in, in_into, in_from}
+use Rattle.list_run.proofs.Inputs.{no_member, ports_at, some_inputs}
+use Rattle.list_run.proofs.Links.{all_in, in_from}
 use Rattle.list_run.proofs.Ordered.{order_below, ordered}
 use Rattle.list_run.proofs.Permuted.{flat_members, flat_permuted}
 use Rattle.list_run.proofs.Routes.{routed_long, routed_arrives}
-use Rattle.list_run.proofs.Sizes.{got_means, all_fit}
+use Rattle.list_run.proofs.Sizes.{got_means, all_came, all_fit, degree_is}
 
-flat_single : (rows : List Row) → flat_map (λ r. r ∷ []) rows ≡ rows
-flat_single [] = refl
-flat_single (r ∷ rows) = ap (λ t. r ∷ t) (flat_single rows)
+-- what an operator gives is what is sent, and what it finds is found, by its kind
+op_gives : (o : ℕ) (k : OpKind) (parts : OpParts) (widths : List ℕ) (q : ℕ) (inputs : List (List (List Row))) (n : ℕ) (sent : List (List Row)) → sent ≡ map (λ p. made_of o k parts widths q (slice p inputs)) (range_with_len 0 n) → Gives (op_by o k parts widths) q inputs n sent
+op_gives o kind.Copy parts widths q inputs n sent e = e
+op_gives o k parts widths q inputs n sent e = e
 
--- partition by partition
-each_is : (f g : List Row → List Row) → ((rows : List Row) → f rows ≡ g rows) → (parts : List (List Row)) (n : ℕ) → length parts ≡ n → map f parts ≡ map (λ p. g (get_or parts p [])) (range_with_len 0 n)
-each_is f g h parts n e = map_same f g h parts ∙ sym (each_part g parts) ∙ ap (λ k. map (λ p. g (get_or parts p [])) (range_with_len 0 k)) e
+op_degree : (o : ℕ) (k : OpKind) (parts : OpParts) (widths : List ℕ) (n : ℕ) → FitsDegree (op_by o k parts widths) n
+op_degree o kind.Copy parts widths n = tt
+op_degree o k parts widths n = tt
 
-one_member : (xs : List ℕ) → length xs ≡ 1 → xs ≡ get_or xs 0 0 ∷ []
-one_member [] e = absurd (omega (arith, e))
-one_member (x ∷ []) e = refl
-one_member (x ∷ (y ∷ xs)) e = absurd (omega (arith, e))
+op_finds : (o : ℕ) (k : OpKind) (parts : OpParts) (widths : List ℕ) (p : ℕ) (lists : List (List Row)) → found_of o k parts widths lists ≡ faults_on (op_by o k parts widths) p lists
+op_finds o kind.Copy parts widths p lists = refl
+op_finds o k parts widths p lists = refl
 
-no_member : (xs : List ℕ) → length xs ≡ 0 → xs ≡ []
-no_member [] e = refl
-no_member (x ∷ xs) e = absurd (omega (arith, e))
-
--- an operator by rows
-rule_gives : (c : Chart) (nodes : ℕ) (o l : ℕ) (k : OpKind) (op : Op) (G : ℕ → List (List Row)) → op ≡ by_row (row_rule o k (parts_of c o)) → links_into c o ≡ input_of c o ∷ [] → ((i : ℕ) → IsIn i (links_into c o) → length (G i) ≡ degree_at c nodes o) →
-    Gives op (link_at c l).out (map G (links_into c o)) (degree_at c nodes o) (map (λ rows. flat_map ((row_rule o k (parts_of c o)).rows (link_at c l).out) rows) (G (input_of c o)))
-rule_gives c nodes o l k op G is one long =
+by_gives : (c : Chart) (nodes : ℕ) (o l : ℕ) (k : OpKind) (op : Op) (G : ℕ → List (List Row)) → op ≡ op_by o k (parts_of c o) (widths_into c o) → degree_of (inputs_of c o G) ≡ degree_at c nodes o →
+    Gives op (link_at c l).out (inputs_of c o G) (degree_at c nodes o) (made_by o k (parts_of c o) (widths_into c o) (link_at c l).out (inputs_of c o G))
+by_gives c nodes o l k op G is long =
     let q = (link_at c l).out in
-    let rule = row_rule o k (parts_of c o) in
-    let make : List Row → List Row = λ rows. flat_map (rule.rows q) rows in
-    subst (λ (p : Op). Gives p q (map G (links_into c o)) (degree_at c nodes o) (map make (G (input_of c o)))) (sym is)
-    (subst (λ ins. Gives (by_row rule) q (map G ins) (degree_at c nodes o) (map make (G (input_of c o)))) (sym one)
-    (each_is make make (λ rows. refl) (G (input_of c o)) (degree_at c nodes o) (long (input_of c o) (subst (IsIn (input_of c o)) (sym one) (inl refl)))))
+    let inputs = inputs_of c o G in
+    let make : ℕ → List Row = λ p. made_of o k (parts_of c o) (widths_into c o) q (slice p inputs) in
+    let sent = made_by o k (parts_of c o) (widths_into c o) q inputs in
+    subst (λ (p : Op). Gives p q inputs (degree_at c nodes o) sent) (sym is) (op_gives o k (parts_of c o) (widths_into c o) q inputs (degree_at c nodes o) sent (ap (λ n. map make (range_with_len 0 n)) long))
 
--- and its faults, on all partitions
-rule_finds : (c : Chart) (nodes : ℕ) (o : ℕ) (k : OpKind) (op : Op) (G : ℕ → List (List Row)) → op ≡ by_row (row_rule o k (parts_of c o)) → links_into c o ≡ input_of c o ∷ [] → ((i : ℕ) → IsIn i (links_into c o) → length (G i) ≡ degree_at c nodes o) →
-    joined (map (λ p. faults_on op p (slice p (map G (links_into c o)))) (range_with_len 0 (degree_at c nodes o))) ≡ flat_map (flat_map (row_rule o k (parts_of c o)).faults) (G (input_of c o))
-rule_finds c nodes o k op G is one long =
-    let find : List Row → List Fault = flat_map (row_rule o k (parts_of c o)).faults in
-    let parts = G (input_of c o) in
-    ap (λ (p : Op). joined (map (λ i. faults_on p i (slice i (map G (links_into c o)))) (range_with_len 0 (degree_at c nodes o)))) is
-    ∙ ap (λ ins. joined (map (λ i. faults_on (by_row (row_rule o k (parts_of c o))) i (slice i (map G ins))) (range_with_len 0 (degree_at c nodes o)))) one
-    ∙ ap (λ n. joined (map (λ i. find (get_or parts i [])) (range_with_len 0 n))) (sym (long (input_of c o) (subst (IsIn (input_of c o)) (sym one) (inl refl))))
-    ∙ ap joined (each_part find parts)
-    ∙ flat_map-map (λ fs. fs) find parts
+found_each : {Y : Type 0} (f g : ℕ → List Y) → ((p : ℕ) → f p ≡ g p) → (ns : List ℕ) → flat_map f ns ≡ joined (map g ns)
+found_each f g h [] = refl
+found_each f g h (n ∷ ns) = ap₂ (λ a b. a ++ b) (h n) (found_each f g h ns)
+
+by_finds : (c : Chart) (nodes : ℕ) (o : ℕ) (k : OpKind) (op : Op) (G : ℕ → List (List Row)) → op ≡ op_by o k (parts_of c o) (widths_into c o) → degree_of (inputs_of c o G) ≡ degree_at c nodes o →
+    flat_map (λ p. found_of o k (parts_of c o) (widths_into c o) (slice p (inputs_of c o G))) (range_with_len 0 (degree_of (inputs_of c o G))) ≡ joined (map (λ p. faults_on op p (slice p (inputs_of c o G))) (range_with_len 0 (degree_at c nodes o)))
+by_finds c nodes o k op G is long =
+    let inputs = inputs_of c o G in
+    let find : ℕ → List Fault = λ p. found_of o k (parts_of c o) (widths_into c o) (slice p inputs) in
+    ap (λ n. flat_map find (range_with_len 0 n)) long
+    ∙ found_each find (λ p. faults_on op p (slice p inputs)) (λ p. op_finds o k (parts_of c o) (widths_into c o) p (slice p inputs) ∙ ap (λ (x : Op). faults_on x p (slice p inputs)) (sym is)) (range_with_len 0 (degree_at c nodes o))
 
 kind_finds : (c : Chart) (nodes : ℕ) (given : List (List Row)) (o : ℕ) (k : OpKind) (op : Op) (G : ℕ → List (List Row)) → IsShape c → o < length c.flow.ops → (op_at c o).kind ≡ k → IsBuilt c o k → OpIs c given o op k → ((i : ℕ) → IsIn i (links_into c o) → length (G i) ≡ degree_at c nodes o) →
-    found_in o k (parts_of c o) (G (input_of c o)) ≡ if_worked k (joined (map (λ p. faults_on op p (slice p (map G (links_into c o)))) (range_with_len 0 (degree_at c nodes o))))
+    found_by o k (parts_of c o) (widths_into c o) (inputs_of c o G) ≡ if_between k (joined (map (λ p. faults_on op p (slice p (inputs_of c o G))) (range_with_len 0 (degree_at c nodes o))))
 kind_finds c nodes given o (kind.Import file schema delim fixed reject) op G shape m e b is long = refl
 kind_finds c nodes given o (kind.Export file delim fixed) op G shape m e b is long = refl
-kind_finds c nodes given o kind.Copy op G shape m e b is long = refl
-kind_finds c nodes given o (kind.Filter test reject) op G shape m e b is long = sym (rule_finds c nodes o (kind.Filter test reject) op G is (one_member (links_into c o) (ports_at c shape o m (kind.Filter test reject) e)) long)
-kind_finds c nodes given o (kind.Transform set reject) op G shape m e b is long = sym (rule_finds c nodes o (kind.Transform set reject) op G is (one_member (links_into c o) (ports_at c shape o m (kind.Transform set reject) e)) long)
-kind_finds c nodes given o (kind.Modify keep drop rename) op G shape m e b is long = sym (rule_finds c nodes o (kind.Modify keep drop rename) op G is (one_member (links_into c o) (ports_at c shape o m (kind.Modify keep drop rename) e)) long)
-kind_finds c nodes given o (kind.Switch on cases reject) op G shape m e b is long = sym (rule_finds c nodes o (kind.Switch on cases reject) op G is (one_member (links_into c o) (ports_at c shape o m (kind.Switch on cases reject) e)) long)
-kind_finds c nodes given o (kind.Tsort key) op G shape m e b is long = refl
-kind_finds c nodes given o (kind.Remdup key last) op G shape m e b is long = refl
-kind_finds c nodes given o k op G shape m e b is long = absurd b
+kind_finds c nodes given o (kind.Dsread ds) op G shape m e b is long = absurd b
+kind_finds c nodes given o (kind.Dswrite ds) op G shape m e b is long = absurd b
+kind_finds c nodes given o (kind.InnerJoin key) op G shape m e b is long = absurd b
+kind_finds c nodes given o (kind.LeftOuterJoin key) op G shape m e b is long = absurd b
+kind_finds c nodes given o (kind.RightOuterJoin key) op G shape m e b is long = absurd b
+kind_finds c nodes given o (kind.FullOuterJoin key) op G shape m e b is long = absurd b
+kind_finds c nodes given o (kind.Merge key keepbad reject) op G shape m e b is long = absurd b
+kind_finds c nodes given o (kind.Lookup key missing) op G shape m e b is long = absurd b
+kind_finds c nodes given o (kind.Changecapture key values keepcopy) op G shape m e b is long = absurd b
+kind_finds c nodes given o (kind.Funnel sequence sort) op G shape m e b is long = absurd b
+kind_finds c nodes given o k op G shape m e b is long = by_finds c nodes o k op G is (degree_is c nodes o G (some_inputs c o k shape m e b tt) long)
 
--- what an operator gives is what is sent, by its kind
 kind_gives : (c : Chart) (nodes : ℕ) (given : List (List Row)) (o l : ℕ) (k : OpKind) (op : Op) (G : ℕ → List (List Row)) → IsShape c → o < length c.flow.ops → (op_at c o).kind ≡ k → IsBuilt c o k → OpIs c given o op k → IsIn l (links_from c o) →
-    ((i : ℕ) → IsIn i (links_into c o) → length (G i) ≡ degree_at c nodes o) → Gives op (link_at c l).out (map G (links_into c o)) (degree_at c nodes o) (sent_by o k (parts_of c o) (link_at c l).out (G (input_of c o)) (get_or given l []))
+    ((i : ℕ) → IsIn i (links_into c o) → length (G i) ≡ degree_at c nodes o) → Gives op (link_at c l).out (inputs_of c o G) (degree_at c nodes o) (sent_by o k (parts_of c o) (widths_into c o) (link_at c l).out (inputs_of c o G) (get_or given l []))
 kind_gives c nodes given o l (kind.Import file schema delim fixed reject) op G shape m e b is i long =
     let q = (link_at c l).out in
     let imported = is.0.3 in
@@ -103,43 +95,32 @@ kind_gives c nodes given o l (kind.Import file schema delim fixed reject) op G s
     (subst (λ s. Gives (import is.0.0 is.0.1 is.0.2) q [] (cond s 1 nodes) (get_or given l [] ∷ [])) (sym b)
     (ap (λ r. r ∷ []) (sym (is.1 l i) ∙ ap (λ p. result p q []) imported))))
 kind_gives c nodes given o l (kind.Export file delim fixed) op G shape m e b is i long = absurd (subst (IsIn l) b i)
-kind_gives c nodes given o l kind.Copy op G shape m e b is i long =
-    let q = (link_at c l).out in
-    let one = one_member (links_into c o) (ports_at c shape o m kind.Copy e) in
-    subst (λ (p : Op). Gives p q (map G (links_into c o)) (degree_at c nodes o) (map (made kind.Copy (keys_at c o)) (G (input_of c o)))) (sym is)
-    (subst (λ ins. Gives (by_row copy_rule) q (map G ins) (degree_at c nodes o) (map (made kind.Copy (keys_at c o)) (G (input_of c o)))) (sym one)
-    (each_is (λ rows. rows) (λ rows. flat_map (λ r. r ∷ []) rows) (λ rows. sym (flat_single rows)) (G (input_of c o)) (degree_at c nodes o) (long (input_of c o) (subst (IsIn (input_of c o)) (sym one) (inl refl)))))
-kind_gives c nodes given o l (kind.Filter test reject) op G shape m e b is i long = rule_gives c nodes o l (kind.Filter test reject) op G is (one_member (links_into c o) (ports_at c shape o m (kind.Filter test reject) e)) long
-kind_gives c nodes given o l (kind.Transform set reject) op G shape m e b is i long = rule_gives c nodes o l (kind.Transform set reject) op G is (one_member (links_into c o) (ports_at c shape o m (kind.Transform set reject) e)) long
-kind_gives c nodes given o l (kind.Modify keep drop rename) op G shape m e b is i long = rule_gives c nodes o l (kind.Modify keep drop rename) op G is (one_member (links_into c o) (ports_at c shape o m (kind.Modify keep drop rename) e)) long
-kind_gives c nodes given o l (kind.Switch on cases reject) op G shape m e b is i long = rule_gives c nodes o l (kind.Switch on cases reject) op G is (one_member (links_into c o) (ports_at c shape o m (kind.Switch on cases reject) e)) long
-kind_gives c nodes given o l (kind.Tsort key) op G shape m e b is i long =
-    let q = (link_at c l).out in
-    let one = one_member (links_into c o) (ports_at c shape o m (kind.Tsort key) e) in
-    let keys = get_keys (keys_at c o) 0 in
-    subst (λ (p : Op). Gives p q (map G (links_into c o)) (degree_at c nodes o) (map (made (kind.Tsort key) (keys_at c o)) (G (input_of c o)))) (sym is)
-    (subst (λ ins. Gives (tsort keys) q (map G ins) (degree_at c nodes o) (map (made (kind.Tsort key) (keys_at c o)) (G (input_of c o)))) (sym one)
-    (each_is (made (kind.Tsort key) (keys_at c o)) (made (kind.Tsort key) (keys_at c o)) (λ rows. refl) (G (input_of c o)) (degree_at c nodes o) (long (input_of c o) (subst (IsIn (input_of c o)) (sym one) (inl refl)))))
-kind_gives c nodes given o l (kind.Remdup key last) op G shape m e b is i long =
-    let q = (link_at c l).out in
-    let one = one_member (links_into c o) (ports_at c shape o m (kind.Remdup key last) e) in
-    let keys = get_keys (keys_at c o) 0 in
-    subst (λ (p : Op). Gives p q (map G (links_into c o)) (degree_at c nodes o) (map (made (kind.Remdup key last) (keys_at c o)) (G (input_of c o)))) (sym is)
-    (subst (λ ins. Gives (remdup last keys) q (map G ins) (degree_at c nodes o) (map (made (kind.Remdup key last) (keys_at c o)) (G (input_of c o)))) (sym one)
-    (each_is (made (kind.Remdup key last) (keys_at c o)) (made (kind.Remdup key last) (keys_at c o)) (λ rows. refl) (G (input_of c o)) (degree_at c nodes o) (long (input_of c o) (subst (IsIn (input_of c o)) (sym one) (inl refl)))))
-kind_gives c nodes given o l k op G shape m e b is i long = absurd b
+kind_gives c nodes given o l (kind.Dsread ds) op G shape m e b is i long = absurd b
+kind_gives c nodes given o l (kind.Dswrite ds) op G shape m e b is i long = absurd b
+kind_gives c nodes given o l (kind.InnerJoin key) op G shape m e b is i long = absurd b
+kind_gives c nodes given o l (kind.LeftOuterJoin key) op G shape m e b is i long = absurd b
+kind_gives c nodes given o l (kind.RightOuterJoin key) op G shape m e b is i long = absurd b
+kind_gives c nodes given o l (kind.FullOuterJoin key) op G shape m e b is i long = absurd b
+kind_gives c nodes given o l (kind.Merge key keepbad reject) op G shape m e b is i long = absurd b
+kind_gives c nodes given o l (kind.Lookup key missing) op G shape m e b is i long = absurd b
+kind_gives c nodes given o l (kind.Changecapture key values keepcopy) op G shape m e b is i long = absurd b
+kind_gives c nodes given o l (kind.Funnel sequence sort) op G shape m e b is i long = absurd b
+kind_gives c nodes given o l k op G shape m e b is i long = by_gives c nodes o l k op G is (degree_is c nodes o G (some_inputs c o k shape m e b tt) long)
 
 kind_degree : (c : Chart) (nodes : ℕ) (given : List (List Row)) (o : ℕ) (k : OpKind) (op : Op) → IsBuilt c o k → OpIs c given o op k → FitsDegree op (degree_at c nodes o)
 kind_degree c nodes given o (kind.Import file schema delim fixed reject) op b is = subst (λ p. FitsDegree p (degree_at c nodes o)) (sym is.0.3) (ap (λ s. cond s 1 nodes) b)
 kind_degree c nodes given o (kind.Export file delim fixed) op b is = subst (λ p. FitsDegree p (degree_at c nodes o)) (sym is.1) tt
-kind_degree c nodes given o kind.Copy op b is = subst (λ p. FitsDegree p (degree_at c nodes o)) (sym is) tt
-kind_degree c nodes given o (kind.Filter test reject) op b is = subst (λ p. FitsDegree p (degree_at c nodes o)) (sym is) tt
-kind_degree c nodes given o (kind.Transform set reject) op b is = subst (λ p. FitsDegree p (degree_at c nodes o)) (sym is) tt
-kind_degree c nodes given o (kind.Modify keep drop rename) op b is = subst (λ p. FitsDegree p (degree_at c nodes o)) (sym is) tt
-kind_degree c nodes given o (kind.Switch on cases reject) op b is = subst (λ p. FitsDegree p (degree_at c nodes o)) (sym is) tt
-kind_degree c nodes given o (kind.Tsort key) op b is = subst (λ p. FitsDegree p (degree_at c nodes o)) (sym is) tt
-kind_degree c nodes given o (kind.Remdup key last) op b is = subst (λ p. FitsDegree p (degree_at c nodes o)) (sym is) tt
-kind_degree c nodes given o k op b is = absurd b
+kind_degree c nodes given o (kind.Dsread ds) op b is = absurd b
+kind_degree c nodes given o (kind.Dswrite ds) op b is = absurd b
+kind_degree c nodes given o (kind.InnerJoin key) op b is = absurd b
+kind_degree c nodes given o (kind.LeftOuterJoin key) op b is = absurd b
+kind_degree c nodes given o (kind.RightOuterJoin key) op b is = absurd b
+kind_degree c nodes given o (kind.FullOuterJoin key) op b is = absurd b
+kind_degree c nodes given o (kind.Merge key keepbad reject) op b is = absurd b
+kind_degree c nodes given o (kind.Lookup key missing) op b is = absurd b
+kind_degree c nodes given o (kind.Changecapture key values keepcopy) op b is = absurd b
+kind_degree c nodes given o (kind.Funnel sequence sort) op b is = absurd b
+kind_degree c nodes given o k op b is = subst (λ p. FitsDegree p (degree_at c nodes o)) (sym is) (op_degree o k (parts_of c o) (widths_into c o) (degree_at c nodes o))
 
 all_members : (P : ℕ → Type 0) (xs : List ℕ) → ((x : ℕ) → IsIn x xs → P x) → AllByRecursion P xs
 all_members P [] h = tt
@@ -187,13 +168,13 @@ runs_at c choices nodes given ops r are o m = record {
 }
   where
     long : (l : ℕ) → IsIn l (links_into c o) → length (got_in c nodes given l) ≡ degree_at c nodes o
-    long l i = let k = in_into c o l i in (all_fit c choices nodes given r l k.0).1.0 ∙ ap (degree_at c nodes) k.1
+    long l i = (all_came c choices nodes given r o l i).0
 
-    gives : (l : ℕ) → IsIn l (links_from c o) → Gives (ops o) (link_at c l).out (map (got_in c nodes given) (links_into c o)) (degree_at c nodes o) (sent_in c nodes given l)
+    gives : (l : ℕ) → IsIn l (links_from c o) → Gives (ops o) (link_at c l).out (inputs_of c o (got_in c nodes given)) (degree_at c nodes o) (sent_in c nodes given l)
     gives l i =
         let k = in_from c o l i in
-        subst (λ (s : List (List Row)). Gives (ops o) (link_at c l).out (map (got_in c nodes given) (links_into c o)) (degree_at c nodes o) s)
-        (sym (ap (λ p. sent_from c l p (got_in c nodes given (input_of c p)) (get_or given l [])) k.1))
+        subst (λ (s : List (List Row)). Gives (ops o) (link_at c l).out (inputs_of c o (got_in c nodes given)) (degree_at c nodes o) s)
+        (sym (ap (λ p. sent_from c l p (inputs_of c p (got_in c nodes given)) (get_or given l [])) k.1))
         (kind_gives c nodes given o l (op_at c o).kind (ops o) (got_in c nodes given) r.shape m refl (r.run.built o m) (are o m) i long)
 
 take_all : (xs : List ℕ) → take (length xs) xs ≡ xs
@@ -206,16 +187,16 @@ had_all c o i = subst (IsIn o) (sym (take_all c.order)) i
 -- what is found in the order of the flow is what is found by the numbers of the operators
 all_found : (c : Chart) (choices : List Choice) (nodes : ℕ) (given : List (List Row)) (ops : ℕ → Op) → IsRunnable c choices nodes given → OpsAre c given ops → IsPermutation (found_after c nodes given (length c.order)) (worked_faults c (run_in c nodes given ops))
 all_found c choices nodes given ops r are =
-    let F : ℕ → List Fault = λ o. found_at c o (got_in c nodes given (input_of c o)) in
+    let F : ℕ → List Fault = λ o. found_at c o (got_in c nodes given) in
     let n = length c.flow.ops in
     subst (λ os. IsPermutation (flat_map F os) (worked_faults c (run_in c nodes given ops))) (sym (take_all c.order))
-    (subst (IsPermutation (flat_map F c.order)) (flat_members F (λ o. if_worked (op_at c o).kind (joined ((run_in c nodes given ops).failed o))) (range_with_len 0 n) each)
+    (subst (IsPermutation (flat_map F c.order)) (flat_members F (λ o. if_between (op_at c o).kind (joined ((run_in c nodes given ops).failed o))) (range_with_len 0 n) each)
     (flat_permuted F c.order (range_with_len 0 n) (IsPermutation-sym (range_with_len 0 n) c.order r.shape.order.once)))
   where
     long : (o l : ℕ) → IsIn l (links_into c o) → length (got_in c nodes given l) ≡ degree_at c nodes o
-    long o l i = let k = in_into c o l i in (all_fit c choices nodes given r l k.0).1.0 ∙ ap (degree_at c nodes) k.1
+    long o l i = (all_came c choices nodes given r o l i).0
 
-    each : (o : ℕ) → IsIn o (range_with_len 0 (length c.flow.ops)) → found_at c o (got_in c nodes given (input_of c o)) ≡ if_worked (op_at c o).kind (joined ((run_in c nodes given ops).failed o))
+    each : (o : ℕ) → IsIn o (range_with_len 0 (length c.flow.ops)) → found_at c o (got_in c nodes given) ≡ if_between (op_at c o).kind (joined ((run_in c nodes given ops).failed o))
     each o i = let m = all_in (length c.flow.ops) o i in kind_finds c nodes given o (op_at c o).kind (ops o) (got_in c nodes given) r.shape m refl (r.run.built o m) (are o m) (long o)
 
 pub is_run : (c : Chart) (choices : List Choice) (nodes : ℕ) (given rest : List (List Row)) (held : Held) (ran : Ran) → IsRunnable c choices nodes given → Stands c nodes given (length c.order) rest held → ran.counts ≡ held.counts.items → ran.sinks ≡ held.sinks.items → ran.faults ≡ held.tally.faults → ran.least ≡ held.tally.least →

@@ -12,10 +12,13 @@ pub mod Sizes
 pub mod Standing
 pub mod Legal
 pub mod Inputs
+pub mod Kept
 pub mod Steps
 pub mod Leasts
 pub mod Tallying
 pub mod Working
+pub mod Summing
 pub mod Suiting
 pub mod Splitting
+pub mod Grouped
 pub mod Permuted

@@ -1,8 +1,10 @@
 -- The links into an operator and from it, and what is chosen for a link.
-use Rattle.std.proofs.Common.{◌≡◌, ◌≢◌, ◌⊎◌, inl, inr, ℕ, zero, suc, ◌+◌, ◌<◌, ◌≤◌, ◌==◌, Bool, true, false, cond, refl, sym, ap, ◌∙◌, subst, List, [], ◌∷◌, length, map, get_or, filter, arith}
+use Rattle.std.proofs.Common.{◌≡◌, ◌≢◌, ◌⊎◌, inl, inr, ℕ, zero, suc, ◌+◌, ◌<◌, ◌≤◌, ◌==◌, Bool, true, false, cond, refl, sym, ap, ap₂, ◌∙◌, subst, List, [], ◌∷◌, ◌++◌, length, map, map-id, get_or, filter, append-nil, arith}
 use Rattle.std.specs.List.{range_with_len}
 use Rattle.std.proofs.lemmas.Bool.Decides.{eqb_tells}
-use Rattle.std.proofs.lemmas.List.FromFn.{get_or-map-range_with_len, length-map-range_with_len}
+use Rattle.std.proofs.lemmas.List.{map-append}
+use Rattle.std.proofs.lemmas.List.Elements.{filter-append}
+use Rattle.std.proofs.lemmas.List.FromFn.{get_or-map-range_with_len, length-map-range_with_len, map-range_with_len_more}
 use Rattle.streams.proofs.StreamLaws.{eq_true, eq_false}
 use Rattle.op_base.specs.Columns.{IsIn}
 use Rattle.flow_graph.specs.declared.route.Choice.{Choice}
@@ -116,6 +118,25 @@ in_into c o l h = let k = filter_in (λ k. (link_at c k).to == o) (all_links c) 
 
 pub in_from : (c : Chart) (o l : ℕ) → IsIn l (links_from c o) → (l < length c.flow.links) × ((link_at c l).from ≡ o)
 in_from c o l h = let k = filter_in (λ k. (link_at c k).from == o) (all_links c) l h in (all_in (length c.flow.links) l k.0, equal_from (link_at c l).from o k.1)
+
+-- the links below n + 1 that pass a test
+range_more : (n : ℕ) → range_with_len 0 (n + 1) ≡ range_with_len 0 n ++ n ∷ []
+range_more n =
+    sym (map-id (range_with_len 0 (n + 1))) ∙ map-range_with_len_more (λ i. i) 0 n n (omega arith) ∙ ap (λ t. t ++ n ∷ []) (map-id (range_with_len 0 n))
+
+pub one_more : {X : Type 0} (f : ℕ → X) (p : ℕ → Bool) (n : ℕ) (xs : List X) (x : X) → xs ≡ map f (filter p (range_with_len 0 n)) → p n ≡ true → x ≡ f n → xs ++ x ∷ [] ≡ map f (filter p (range_with_len 0 (n + 1)))
+one_more f p n xs x e t same =
+    ap₂ (λ ys y. ys ++ y ∷ []) e same
+    ∙ sym (map-append f (filter p (range_with_len 0 n)) (n ∷ []))
+    ∙ ap (λ b. map f (filter p (range_with_len 0 n) ++ cond b (n ∷ []) [])) (sym t)
+    ∙ sym (ap (map f) (ap (filter p) (range_more n) ∙ filter-append p (range_with_len 0 n) (n ∷ [])))
+
+pub none_more : {X : Type 0} (f : ℕ → X) (p : ℕ → Bool) (n : ℕ) (xs : List X) → xs ≡ map f (filter p (range_with_len 0 n)) → p n ≡ false → xs ≡ map f (filter p (range_with_len 0 (n + 1)))
+none_more f p n xs e t =
+    e
+    ∙ ap (map f) (sym (append-nil (filter p (range_with_len 0 n))))
+    ∙ ap (λ b. map f (filter p (range_with_len 0 n) ++ cond b (n ∷ []) [])) (sym t)
+    ∙ sym (ap (map f) (ap (filter p) (range_more n) ∙ filter-append p (range_with_len 0 n) (n ∷ [])))
 
 -- choices by link
 pub choices_long : (c : Chart) (choices : List Choice) → choices ≡ map (choice_at c) (all_links c) → length choices ≡ length c.flow.links

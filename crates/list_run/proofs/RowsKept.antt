@@ -63,13 +63,9 @@ map_each P f keeps [] h = tt
 map_each P f keeps (rows ∷ lists) h = (keeps rows h.0, map_each P f keeps lists h.1)
 
 -- what each row gives alone
-rows_all : (P Q : Row → Type 0) (f : Row → List Row) → ((r : Row) → P r → AllByRecursion Q (f r)) → (rows : List Row) → AllByRecursion P rows → AllByRecursion Q (flat_map f rows)
+pub rows_all : (P Q : Row → Type 0) (f : Row → List Row) → ((r : Row) → P r → AllByRecursion Q (f r)) → (rows : List Row) → AllByRecursion P rows → AllByRecursion Q (flat_map f rows)
 rows_all P Q f gives [] h = tt
 rows_all P Q f gives (r ∷ rows) h = all_append Q (f r) (flat_map f rows) (gives r h.0) (rows_all P Q f gives rows h.1)
-
-pub work_each : (P Q : Row → Type 0) (f : Row → List Row) → ((r : Row) → P r → AllByRecursion Q (f r)) → (lists : List (List Row)) → Each P lists → Each Q (map (λ rows. flat_map f rows) lists)
-work_each P Q f gives [] h = tt
-work_each P Q f gives (rows ∷ lists) h = (rows_all P Q f gives rows h.0, work_each P Q f gives lists h.1)
 
 lane_all : (P : Row → Type 0) (goes : ℕ → Row → ℕ) (j t : ℕ) (rows : List Row) → AllByRecursion P rows → AllByRecursion P (lane goes j t rows)
 lane_all P goes j t [] h = tt

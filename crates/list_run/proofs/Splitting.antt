@@ -1,11 +1,12 @@
 -- Rows that are dealt to the lists of their outputs.
 use Rattle.std.proofs.Common.{◌≡◌, ◌≢◌, ◌⊎◌, inl, inr, ℕ, ◌<◌, ◌≤◌, ◌==◌, Bool, true, false, cond, List, [], ◌∷◌, ◌++◌, length, map, get_or, set, refl, sym, ap, ap₂, ◌∙◌, subst, append-nil, append_assoc, arith}
 use Rattle.std.specs.Prelude.{nat_lt, if◌then◌else◌}
-use Rattle.std.specs.List.{AllByRecursion, flat_map}
+use Rattle.std.specs.List.{AllByRecursion, flat_map, range_with_len}
 use Rattle.std.proofs.lemmas.Grind.{flat_map-append}
 use Rattle.std.proofs.lemmas.Bool.Decides.{eqb_tells, nat_tests}
-use Rattle.std.proofs.lemmas.List.{get_or-set_other, get_or-set_same}
+use Rattle.std.proofs.lemmas.List.{get_or-set_other, get_or-set_same, map-append}
 use Rattle.std.proofs.lemmas.List.Elements.{All-from_recursion}
+use Rattle.std.proofs.lemmas.List.FromFn.{length-map-range_with_len, get_or-map-range_with_len}
 use Rattle.streams.specs.Streams.{Out, sends, fails, on}
 use Rattle.streams.proofs.StreamLaws.{eq_true}
 use Rattle.op_base.specs.declared.fault.Fault.{Fault}
@@ -16,10 +17,10 @@ use Rattle.op_base.specs.Emits.{rows_sent}
 use Rattle.flow_graph.specs.declared.op_kind.OpKind.{OpKind}
 use Rattle.flow_graph.specs.declared.op_kind.OpKind.TheVariants as kind
 use Rattle.flow_graph.specs.declared.parts.OpParts.{OpParts}
-use Rattle.flow_graph.specs.RowRules.{row_rule}
-use Rattle.list_run.specs.Found.{found_in}
-use Rattle.list_run.specs.Made.{made_for}
-use Rattle.list_run.specs.Worked.{AreWithin, HasWorked, TakesPartition, WorksByRow, outputs_of, place_of, sent_to}
+use Rattle.flow_graph.specs.Runs.{slice}
+use Rattle.flow_ops.specs.Kept.{if_between}
+use Rattle.list_run.specs.Made.{degree_of, made_of}
+use Rattle.list_run.specs.Worked.{AreWithin, HasWorked, IsWorked, TakesPartition, outputs_of, place_of, sent_to}
 
 -- what is sent to an output is what is on it
 pub sent_on : (q : ℕ) (given : List (Out Row Fault)) → sent_to q (rows_sent given) ≡ on q given
@@ -54,8 +55,8 @@ within n (sends port r ∷ given) h = (low (nat_lt port n) refl, within n given 
     rest q false e = e
 within n (fails f ∷ given) h = within n given h
 
-pub are_within : (k : OpKind) (parts : OpParts) (rows : List Row) (emit : Emit) (n : ℕ) → n ≡ outputs_of k → HasWorked k parts rows emit → AreWithin n emit.sent
-are_within k parts rows emit n e w =
+pub are_within : (k : OpKind) (parts : OpParts) (widths : List ℕ) (lists : List (List Row)) (emit : Emit) (n : ℕ) → n ≡ outputs_of k → HasWorked k parts widths lists emit → AreWithin n emit.sent
+are_within k parts widths lists emit n e w =
     subst (λ m. AreWithin m emit.sent) (sym e)
     (subst (AreWithin (outputs_of k)) (sym w.emitted.sent) (All-from_recursion (λ (s : Sent). s.port < outputs_of k) (rows_sent w.given) (within (outputs_of k) w.given w.no_more)))
 
@@ -96,27 +97,41 @@ some_output (kind.Changecapture key values keepcopy) = omega arith
 some_output (kind.Funnel sequence sort) = omega arith
 
 -- one more partition
-pub partition_made : (o : ℕ) (k : OpKind) (parts : OpParts) (lists : List (List Row)) (rows : List Row) (emit : Emit) (old new : List (List (List Row))) → length old ≡ outputs_of k → HasWorked k parts rows emit → TakesPartition emit.sent old new → (q : ℕ) → get_or old (place_of (outputs_of k) q) [] ≡ map (made_for o k parts q) lists →
-    get_or new (place_of (outputs_of k) q) [] ≡ map (made_for o k parts q) (lists ++ rows ∷ [])
-partition_made o k parts lists rows emit old new count w t q h =
+pub partition_made : (o : ℕ) (k : OpKind) (parts : OpParts) (widths : List ℕ) (done : List (List (List Row))) (lists : List (List Row)) (emit : Emit) (old new : List (List (List Row))) → length old ≡ outputs_of k → HasWorked k parts widths lists emit → TakesPartition emit.sent old new → (q : ℕ) →
+    get_or old (place_of (outputs_of k) q) [] ≡ map (made_of o k parts widths q) done → get_or new (place_of (outputs_of k) q) [] ≡ map (made_of o k parts widths q) (done ++ lists ∷ [])
+partition_made o k parts widths done lists emit old new count w t q h =
     t.each (place_of (outputs_of k) q) (subst (λ n. place_of (outputs_of k) q < n) (sym count) (there (outputs_of k) (some_output k)))
     ∙ ap₂ (λ ls r. ls ++ r ∷ []) h (ap (sent_to (place_of (outputs_of k) q)) w.emitted.sent ∙ sent_on (place_of (outputs_of k) q) w.given ∙ w.rows_are o q)
-    ∙ sym (mapped lists)
+    ∙ sym (map-append (made_of o k parts widths q) done (lists ∷ []))
   where
     there : (n : ℕ) → 0 < n → place_of n q < n
     there n l = omega (arith, l)
 
-    mapped : (ls : List (List Row)) → map (made_for o k parts q) (ls ++ rows ∷ []) ≡ map (made_for o k parts q) ls ++ made_for o k parts q rows ∷ []
-    mapped [] = refl
-    mapped (l ∷ ls) = ap (λ t. made_for o k parts q l ∷ t) (mapped ls)
-
-appended : (f : List Row → List Fault) (lists : List (List Row)) (rows : List Row) → flat_map f lists ++ f rows ≡ flat_map f (lists ++ rows ∷ [])
-appended f lists rows = ap (λ t. flat_map f lists ++ t) (sym (append-nil (f rows))) ∙ sym (flat_map-append f lists (rows ∷ []))
-
 -- and what is found in it
-pub found_more : (o : ℕ) (k : OpKind) (parts : OpParts) (lists : List (List Row)) (rows : List Row) → WorksByRow k → found_in o k parts lists ++ flat_map (row_rule o k parts).faults rows ≡ found_in o k parts (lists ++ rows ∷ [])
-found_more o (kind.Filter test reject) parts lists rows w = appended (flat_map (row_rule o (kind.Filter test reject) parts).faults) lists rows
-found_more o (kind.Transform set reject) parts lists rows w = appended (flat_map (row_rule o (kind.Transform set reject) parts).faults) lists rows
-found_more o (kind.Modify keep drop rename) parts lists rows w = appended (flat_map (row_rule o (kind.Modify keep drop rename) parts).faults) lists rows
-found_more o (kind.Switch on cases reject) parts lists rows w = appended (flat_map (row_rule o (kind.Switch on cases reject) parts).faults) lists rows
-found_more o k parts lists rows w = absurd w
+pub found_more : (f : List (List Row) → List Fault) (done : List (List (List Row))) (lists : List (List Row)) → flat_map f done ++ f lists ≡ flat_map f (done ++ lists ∷ [])
+found_more f done lists = ap (λ t. flat_map f done ++ t) (sym (append-nil (f lists))) ∙ sym (flat_map-append f done (lists ∷ []))
+
+-- of the lists by port of each partition
+pub each_made : {Y : Type 0} (f : List (List Row) → Y) (inputs : List (List (List Row))) (ns : List ℕ) → map f (map (λ p. slice p inputs) ns) ≡ map (λ p. f (slice p inputs)) ns
+each_made f inputs [] = refl
+each_made f inputs (n ∷ ns) = ap (λ t. f (slice n inputs) ∷ t) (each_made f inputs ns)
+
+pub each_found : (f : List (List Row) → List Fault) (inputs : List (List (List Row))) (ns : List ℕ) → flat_map f (map (λ p. slice p inputs) ns) ≡ flat_map (λ p. f (slice p inputs)) ns
+each_found f inputs [] = refl
+each_found f inputs (n ∷ ns) = ap (λ t. f (slice n inputs) ++ t) (each_found f inputs ns)
+
+-- an operator that is worked stands between imports and exports
+pub all_found : (k : OpKind) → IsWorked k → (faults : List Fault) → faults ≡ if_between k faults
+all_found (kind.Filter test reject) w faults = refl
+all_found (kind.Transform set reject) w faults = refl
+all_found (kind.Modify keep drop rename) w faults = refl
+all_found (kind.Switch on cases reject) w faults = refl
+all_found (kind.Group key hash results) w faults = refl
+all_found k w faults = absurd w
+
+-- the lists that a loop over the slices has next
+pub slice_at : (inputs slices : List (List (List Row))) (p : ℕ) (lists : List (List Row)) → slices ≡ map (λ p. slice p inputs) (range_with_len 0 (degree_of inputs)) → p < length slices → lists ≡ get_or slices p lists → lists ≡ slice p inputs
+slice_at inputs slices p lists e m is =
+    let f : ℕ → List (List Row) = λ p. slice p inputs in
+    let n = degree_of inputs in
+    is ∙ ap (λ ss. get_or ss p lists) e ∙ get_or-map-range_with_len f 0 n p p lists (subst (λ k. p < k) (ap length e ∙ length-map-range_with_len f 0 n) m) (omega arith)

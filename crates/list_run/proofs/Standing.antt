@@ -1,5 +1,5 @@
 -- What stands after some turns stands after one more.
-use Rattle.std.proofs.Common.{◌≡◌, ◌≢◌, ◌⊎◌, inl, inr, ℕ, zero, suc, ◌+◌, ◌<◌, Bool, refl, sym, ap, ◌∙◌, subst, List, [], ◌∷◌, ◌++◌, length, take, get_or, All, Option, Some, None, append-nil, arith}
+use Rattle.std.proofs.Common.{◌≡◌, ◌≢◌, ◌⊎◌, inl, inr, ℕ, zero, suc, ◌+◌, ◌<◌, Bool, refl, sym, ap, ap₂, ◌∙◌, subst, List, [], ◌∷◌, ◌++◌, length, take, get_or, All, Option, Some, None, append-nil, arith}
 use Rattle.std.specs.List.{AllByRecursion, flat_map}
 use Rattle.std.proofs.lemmas.Grind.{flat_map-append}
 use Rattle.std.proofs.lemmas.List.Elements.{All-from_recursion}
@@ -19,19 +19,16 @@ use Rattle.flow_graph.specs.FlowShape.{IsShape, ForwardOrder, WrittenFits}
 use Rattle.flow_graph.specs.Runs.{RouteFits}
 use Rattle.flow_derive.specs.LinkStates.{choice_at, written_or_same}
 use Rattle.list_run.specs.declared.held.Held.{Held}
-use Rattle.list_run.specs.Found.{Tallies}
-use Rattle.list_run.specs.Held.{CanTurn, MaySend, Steps, found_at, sent_from, sent_on, got_on}
+use Rattle.list_run.specs.Found.{Tallies, found_by}
+use Rattle.list_run.specs.Held.{CameFits, MaySend, Steps, found_at, inputs_of, sent_from, sent_on, got_on, waits}
 use Rattle.list_run.specs.Routed.{Joins, SuitsRoute}
-use Rattle.flow_rules.specs.Exports.{IsExport, input_of}
-use Rattle.list_run.specs.Runnable.{degree_at, row_count, IsRunnable}
+use Rattle.list_run.specs.Runnable.{degree_at, first_into, row_count, widths_into, IsExport, IsRunnable}
 use Rattle.list_run.specs.Turns.{HadTurn, Stands, found_after, got_in, sent_in}
-use Rattle.list_run.specs.Worked.{CanWork, WorksByRow}
-use Rattle.list_run.proofs.Inputs.{only_input, ports_at}
-use Rattle.list_run.proofs.Suiting.{can_work}
+use Rattle.list_run.proofs.Inputs.{ports_at, some_member, some_of_one}
 use Rattle.list_run.proofs.Links.{all_in, in_from, in_into}
 use Rattle.list_run.proofs.Ordered.{in_either, not_before, order_front, turn_more, turn_before, turn_now}
 use Rattle.list_run.proofs.RowsKept.{Each}
-use Rattle.list_run.proofs.Sizes.{Fed, fed_as, lies_in, same_found, same_sent, got_means, all_fit, input_seen}
+use Rattle.list_run.proofs.Sizes.{lies_in, same_inputs, got_means, all_came, all_fit}
 
 -- the inputs of the n-th operator leave operators that had their turns
 forward_at : (c : Chart) (seen order : List ℕ) → ForwardOrder c seen order → (n : ℕ) → n < length order → (l : ℕ) → IsIn l (links_into c (get_or order n 0)) → IsIn l seen ⊎ IsIn (link_at c l).from (take n order)
@@ -54,29 +51,25 @@ input_had c f n m l i = go (forward_at c [] c.order f n m l i)
     go (inl j) = absurd j
     go (inr j) = j
 
-lies_self : (xs ys : List ℕ) → ((x : ℕ) → IsIn x xs → IsIn x ys) → Lies xs ys
-lies_self [] ys h = tt
-lies_self (x ∷ xs) ys h = (h x (inl refl), lies_self xs ys (λ z i. h z (inr i)))
+-- what waits for the n-th operator
+pub waits_for : (c : Chart) (choices : List Choice) (nodes : ℕ) (given : List (List Row)) (n : ℕ) (rest : List (List Row)) (held : Held) → IsRunnable c choices nodes given → n < length c.order → Stands c nodes given n rest held →
+    (l : ℕ) → IsIn l (links_into c (get_or c.order n 0)) → waits held l ≡ got_in c nodes given l
+waits_for c choices nodes given n rest held r m stands l i =
+    let k = in_into c (get_or c.order n 0) l i in
+    stands.waiting l k.0 (input_had c r.shape.order.forward n m l i) (λ h. not_before c r.shape.order n m (subst (HadTurn c n) k.1 h))
 
--- what waits for the n-th operator, if it has an input
-pub waits_for : (c : Chart) (choices : List Choice) (nodes : ℕ) (given : List (List Row)) (n : ℕ) (rest : List (List Row)) (held : Held) → IsRunnable c choices nodes given → n < length c.order → get_or c.order n 0 < length c.flow.ops → Stands c nodes given n rest held →
-    Fed (op_at c (get_or c.order n 0)).kind (get_or held.waiting.items (input_of c (get_or c.order n 0)) [] ≡ got_in c nodes given (input_of c (get_or c.order n 0)))
-waits_for c choices nodes given n rest held r m b stands =
-    let o = get_or c.order n 0 in
-    fed_as (op_at c o).kind (IsIn (input_of c o) (links_into c o)) _ (λ i.
-    let k = in_into c o (input_of c o) i in
-    stands.waiting (input_of c o) k.0 (input_had c r.shape.order.forward n m (input_of c o) i) (λ h. not_before c r.shape.order n m (subst (HadTurn c n) k.1 h)))
-    (input_seen c o (op_at c o).kind r.shape b refl (r.run.built o b) (links_into c o) (lies_self (links_into c o) (links_into c o) (λ x i. i)))
+pub inputs_wait : (c : Chart) (choices : List Choice) (nodes : ℕ) (given : List (List Row)) (n : ℕ) (rest : List (List Row)) (held : Held) → IsRunnable c choices nodes given → n < length c.order → Stands c nodes given n rest held →
+    inputs_of c (get_or c.order n 0) (waits held) ≡ inputs_of c (get_or c.order n 0) (got_in c nodes given)
+inputs_wait c choices nodes given n rest held r m stands = same_inputs (waits held) (got_in c nodes given) (links_into c (get_or c.order n 0)) (waits_for c choices nodes given n rest held r m stands)
 
 -- what it sends is what is sent in the end
-pub held_sent : (c : Chart) (choices : List Choice) (nodes : ℕ) (given : List (List Row)) (n : ℕ) (rest : List (List Row)) (held : Held) → IsRunnable c choices nodes given → n < length c.order → get_or c.order n 0 < length c.flow.ops → Stands c nodes given n rest held →
-    (l : ℕ) → l < length c.flow.links → (link_at c l).from ≡ get_or c.order n 0 → sent_on c (λ i. get_or held.waiting.items i []) (λ i. get_or rest i []) l ≡ sent_in c nodes given l
-held_sent c choices nodes given n rest held r m b stands l k e =
+pub held_sent : (c : Chart) (choices : List Choice) (nodes : ℕ) (given : List (List Row)) (n : ℕ) (rest : List (List Row)) (held : Held) → IsRunnable c choices nodes given → n < length c.order → Stands c nodes given n rest held →
+    (l : ℕ) → l < length c.flow.links → (link_at c l).from ≡ get_or c.order n 0 → sent_on c (waits held) (λ i. get_or rest i []) l ≡ sent_in c nodes given l
+held_sent c choices nodes given n rest held r m stands l k e =
     let o = get_or c.order n 0 in
-    ap (λ p. sent_from c l p (get_or held.waiting.items (input_of c p) []) (get_or rest l [])) e
-    ∙ same_sent c o (op_at c o).kind (r.run.built o b) o (parts_of c o) (link_at c l).out (get_or held.waiting.items (input_of c o) []) (got_in c nodes given (input_of c o)) (get_or rest l []) (get_or given l []) (waits_for c choices nodes given n rest held r m b stands)
-    (stands.rest_is l k (λ h. not_before c r.shape.order n m (subst (HadTurn c n) e h)))
-    ∙ sym (ap (λ p. sent_from c l p (got_in c nodes given (input_of c p)) (get_or given l [])) e)
+    ap (λ p. sent_from c l p (inputs_of c p (waits held)) (get_or rest l [])) e
+    ∙ ap₂ (λ ins rows. sent_from c l o ins rows) (inputs_wait c choices nodes given n rest held r m stands) (stands.rest_is l k (λ h. not_before c r.shape.order n m (subst (HadTurn c n) e h)))
+    ∙ sym (ap (λ p. sent_from c l p (inputs_of c p (got_in c nodes given)) (get_or given l [])) e)
 
 -- rows suit the routes that are written
 suits_row : (m : Route) (fields : List Field) → RouteFits (length fields) m → (r : Row) → FitsFields fields r → SuitsRoute m r
@@ -112,49 +105,29 @@ route_fits seq w (Some route.Any) f = tt
 route_fits seq w (Some route.Ordered) f = tt
 route_fits seq w (Some (route.Merge keys)) f = tt
 
-pub may_send : (c : Chart) (choices : List Choice) (nodes : ℕ) (given : List (List Row)) (n : ℕ) (rest : List (List Row)) (held : Held) → IsRunnable c choices nodes given → n < length c.order → get_or c.order n 0 < length c.flow.ops → Stands c nodes given n rest held →
-    MaySend c nodes (get_or c.order n 0) (sent_on c (λ i. get_or held.waiting.items i []) (λ i. get_or rest i []))
-may_send c choices nodes given n rest held r m b stands = λ l k e.
+pub may_send : (c : Chart) (choices : List Choice) (nodes : ℕ) (given : List (List Row)) (n : ℕ) (rest : List (List Row)) (held : Held) → IsRunnable c choices nodes given → n < length c.order → Stands c nodes given n rest held → MaySend c nodes (get_or c.order n 0) (sent_on c (waits held) (λ i. get_or rest i []))
+may_send c choices nodes given n rest held r m stands = λ l k e.
     let fits = (all_fit c choices nodes given r l k).0 in
     let route = route_fits (into_seq c l) (width_at c l) (get_or c.written l None) (r.shape.links l k).written in
     let P : List (List Row) → Type 0 = λ s. Joins (into_seq c l) (choice_at c l).method (length s) (degree_at c nodes (link_at c l).to) × All (All (SuitsRoute (choice_at c l).method)) s in
-    subst P (sym (held_sent c choices nodes given n rest held r m b stands l k e)) (
+    subst P (sym (held_sent c choices nodes given n rest held r m stands l k e)) (
       subst (λ d. Joins (into_seq c l) (choice_at c l).method d (degree_at c nodes (link_at c l).to)) (sym fits.0) (r.run.joins l k),
       All-from_recursion (All (SuitsRoute (choice_at c l).method)) (sent_in c nodes given l) (suits_lists (choice_at c l).method (get_or c.schemas l []) route (sent_in c nodes given l) fits.1),
     )
 
--- what waits for an operator by rows suits it
-work_fed : (k : OpKind) (P : Type 0) → WorksByRow k → Fed k P → P
-work_fed (kind.Filter test reject) P w h = h
-work_fed (kind.Transform set reject) P w h = h
-work_fed (kind.Modify keep drop rename) P w h = h
-work_fed (kind.Switch on cases reject) P w h = h
-work_fed k P w h = absurd w
+-- the rows that wait for it fit
+pub came_fits : (c : Chart) (choices : List Choice) (nodes : ℕ) (given : List (List Row)) (n : ℕ) (rest : List (List Row)) (held : Held) → IsRunnable c choices nodes given → n < length c.order → Stands c nodes given n rest held → CameFits c (get_or c.order n 0) (waits held)
+came_fits c choices nodes given n rest held r m stands = λ l i.
+    subst (λ (lists : List (List Row)). Each (FitsFields (get_or c.schemas l [])) lists) (sym (waits_for c choices nodes given n rest held r m stands l i)) (all_came c choices nodes given r (get_or c.order n 0) l i).1
 
-one_input : (c : Chart) (o : ℕ) (k : OpKind) → IsShape c → o < length c.flow.ops → (op_at c o).kind ≡ k → WorksByRow k → length (links_into c o) ≡ 1
-one_input c o (kind.Filter test reject) shape m e w = ports_at c shape o m (kind.Filter test reject) e
-one_input c o (kind.Transform set reject) shape m e w = ports_at c shape o m (kind.Transform set reject) e
-one_input c o (kind.Modify keep drop rename) shape m e w = ports_at c shape o m (kind.Modify keep drop rename) e
-one_input c o (kind.Switch on cases reject) shape m e w = ports_at c shape o m (kind.Switch on cases reject) e
-one_input c o k shape m e w = absurd w
-
-pub can_turn : (c : Chart) (choices : List Choice) (nodes : ℕ) (given : List (List Row)) (n : ℕ) (rest : List (List Row)) (held : Held) → IsRunnable c choices nodes given → n < length c.order → get_or c.order n 0 < length c.flow.ops → Stands c nodes given n rest held →
-    CanTurn (op_at c (get_or c.order n 0)).kind (parts_of c (get_or c.order n 0)) (get_or held.waiting.items (input_of c (get_or c.order n 0)) [])
-can_turn c choices nodes given n rest held r m b stands = λ w.
-    let o = get_or c.order n 0 in
-    let k = (op_at c o).kind in
-    let there = only_input c o (one_input c o k r.shape b refl w) in
-    let waits = work_fed k _ w (waits_for c choices nodes given n rest held r m b stands) in
-    subst (CanWork k (parts_of c o)) (sym waits) (can_work c o k r.shape b refl w (got_in c nodes given (input_of c o)) (all_fit c choices nodes given r (input_of c o) there.0).1.1)
-
-export_fed : (k : OpKind) (P : Type 0) → IsExport k → Fed k P → P
-export_fed (kind.Export file delim fixed) P e h = h
-export_fed k P e h = absurd e
+export_input : (c : Chart) (o : ℕ) (k : OpKind) → IsShape c → o < length c.flow.ops → (op_at c o).kind ≡ k → IsExport k → IsIn (first_into c o) (links_into c o)
+export_input c o (kind.Export file delim fixed) shape m e x = some_member (links_into c o) (some_of_one (length (links_into c o)) (ports_at c shape o m (kind.Export file delim fixed) e))
+export_input c o k shape m e x = absurd x
 
 -- what one more operator finds
-found_more : (c : Chart) (nodes : ℕ) (given : List (List Row)) (n : ℕ) → n < length c.order → found_after c nodes given (n + 1) ≡ found_after c nodes given n ++ found_at c (get_or c.order n 0) (got_in c nodes given (input_of c (get_or c.order n 0)))
+found_more : (c : Chart) (nodes : ℕ) (given : List (List Row)) (n : ℕ) → n < length c.order → found_after c nodes given (n + 1) ≡ found_after c nodes given n ++ found_at c (get_or c.order n 0) (got_in c nodes given)
 found_more c nodes given n m =
-    let F : ℕ → List Fault = λ o. found_at c o (got_in c nodes given (input_of c o)) in
+    let F : ℕ → List Fault = λ o. found_at c o (got_in c nodes given) in
     ap (flat_map F) (order_front c.order n m) ∙ flat_map-append F (take n c.order) (get_or c.order n 0 ∷ []) ∙ ap (λ t. flat_map F (take n c.order) ++ t) (append-nil (F (get_or c.order n 0)))
 
 -- one more turn
@@ -162,32 +135,30 @@ pub stands_next : (c : Chart) (choices : List Choice) (nodes : ℕ) (given : Lis
     Steps c nodes (get_or c.order n 0) rest after held new → Stands c nodes given (n + 1) after new
 stands_next c choices nodes given n rest after held new r m b stands steps = record {
   room = steps.room;
-  waiting = λ l k f t. waits l k t (turn_more c n (link_at c l).from m f);
+  waiting = λ l k f t. come l k t (turn_more c n (link_at c l).from m f);
   counts = λ l k f. counted l k (turn_more c n (link_at c l).from m f);
   rest_is = λ l k f. steps.kept_given l k (λ e. f (subst (HadTurn c (n + 1)) (sym e) (turn_now c n m))) ∙ stands.rest_is l k (λ h. f (turn_before c n (link_at c l).from m h));
   sinks = λ p h e. kept p e (turn_more c n p m h);
   found = subst (λ fs. Tallies fs new.tally) (sym (found_more c nodes given n m)) (subst (λ fs. Tallies (found_after c nodes given n ++ fs) new.tally) found (steps.found (found_after c nodes given n) stands.found));
 }
   where
-    found : found_at c (get_or c.order n 0) (get_or held.waiting.items (input_of c (get_or c.order n 0)) []) ≡ found_at c (get_or c.order n 0) (got_in c nodes given (input_of c (get_or c.order n 0)))
-    found =
-        let o = get_or c.order n 0 in
-        same_found c o (op_at c o).kind (r.run.built o b) o (parts_of c o) (get_or held.waiting.items (input_of c o) []) (got_in c nodes given (input_of c o)) (waits_for c choices nodes given n rest held r m b stands)
+    found : found_at c (get_or c.order n 0) (waits held) ≡ found_at c (get_or c.order n 0) (got_in c nodes given)
+    found = let o = get_or c.order n 0 in ap (found_by o (op_at c o).kind (parts_of c o) (widths_into c o)) (inputs_wait c choices nodes given n rest held r m stands)
 
     other : (p : ℕ) → HadTurn c n p → p ≢ get_or c.order n 0
     other p h e = not_before c r.shape.order n m (subst (HadTurn c n) e h)
 
-    waits : (l : ℕ) → l < length c.flow.links → (HadTurn c (n + 1) (link_at c l).to → ⊥) → HadTurn c n (link_at c l).from ⊎ ((link_at c l).from ≡ get_or c.order n 0) → get_or new.waiting.items l [] ≡ got_in c nodes given l
-    waits l k t (inl h) = steps.kept l k (other (link_at c l).from h) (λ e. t (subst (HadTurn c (n + 1)) (sym e) (turn_now c n m))) ∙ stands.waiting l k h (λ u. t (turn_before c n (link_at c l).to m u))
-    waits l k t (inr e) = steps.waiting l k e ∙ ap (got_on c nodes l) (held_sent c choices nodes given n rest held r m b stands l k e) ∙ sym (got_means c choices nodes given r l k)
+    come : (l : ℕ) → l < length c.flow.links → (HadTurn c (n + 1) (link_at c l).to → ⊥) → HadTurn c n (link_at c l).from ⊎ ((link_at c l).from ≡ get_or c.order n 0) → get_or new.waiting.items l [] ≡ got_in c nodes given l
+    come l k t (inl h) = steps.kept l k (other (link_at c l).from h) (λ e. t (subst (HadTurn c (n + 1)) (sym e) (turn_now c n m))) ∙ stands.waiting l k h (λ u. t (turn_before c n (link_at c l).to m u))
+    come l k t (inr e) = steps.waiting l k e ∙ ap (got_on c nodes l) (held_sent c choices nodes given n rest held r m stands l k e) ∙ sym (got_means c choices nodes given r l k)
 
     counted : (l : ℕ) → l < length c.flow.links → HadTurn c n (link_at c l).from ⊎ ((link_at c l).from ≡ get_or c.order n 0) → get_or new.counts.items l 0 ≡ row_count (sent_in c nodes given l)
     counted l k (inl h) = steps.kept_counts l k (other (link_at c l).from h) ∙ stands.counts l k h
-    counted l k (inr e) = steps.counts l k e ∙ ap row_count (held_sent c choices nodes given n rest held r m b stands l k e)
+    counted l k (inr e) = steps.counts l k e ∙ ap row_count (held_sent c choices nodes given n rest held r m stands l k e)
 
     kept : (p : ℕ) → IsExport (op_at c p).kind → HadTurn c n p ⊎ (p ≡ get_or c.order n 0) → get_or new.sinks.items p [] ≡ got_in c nodes given (input_of c p)
     kept p e (inl h) = steps.kept_sinks p (other p h) ∙ stands.sinks p h e
     kept p e (inr q) =
         let e' = subst (λ o. IsExport (op_at c o).kind) q e in
-        subst (λ o. get_or new.sinks.items o [] ≡ got_in c nodes given (input_of c o)) (sym q)
-        (steps.sink e' ∙ export_fed (op_at c (get_or c.order n 0)).kind _ e' (waits_for c choices nodes given n rest held r m b stands))
+        subst (λ o. get_or new.sinks.items o [] ≡ got_in c nodes given (first_into c o)) (sym q)
+        (steps.sink e' ∙ waits_for c choices nodes given n rest held r m stands (first_into c (get_or c.order n 0)) (export_input c (get_or c.order n 0) (op_at c (get_or c.order n 0)).kind r.shape b refl e'))

@@ -17,6 +17,7 @@ use Rattle.expr_table.specs.declared.arg.EvalFault.{EvalFault}
 use Rattle.op_base.specs.declared.fault.Fault.{Fault}
 use Rattle.op_base.specs.declared.emit.Emit.{Emit}
 use Rattle.op_base.specs.Columns.{Row}
+use Rattle.op_base.specs.Meanings.{input}
 use Rattle.op_base.specs.RowOperators.{RowRule, filter_rule, switch_rule, modify_rule, judged_faults, Case, case, other, case_fails, case_rows, case_faults, failed_faults, if_no, failed_rows}
 use Rattle.op_base.specs.Standing.{RowStream}
 use Rattle.op_base.specs.WholeLists.{HasEmitted, list_feeds}
@@ -97,8 +98,9 @@ judged_unnumbered r (Ok (Truth true)) = tt
 judged_unnumbered r (Ok (Truth false)) = tt
 judged_unnumbered r (Err why) = (refl, tt)
 
-pub filter_worked : (test : List ℕ) (reject : Bool) (parts : OpParts) (rows : List Row) (emit : Emit) → Works (filter_rule (judged (first_expr parts)) reject) (with_rejects 1 reject) rows emit → HasWorked (kind.Filter test reject) parts rows emit
-filter_worked test reject parts rows emit w =
+pub filter_worked : (test : List ℕ) (reject : Bool) (parts : OpParts) (widths : List ℕ) (lists : List (List Row)) (emit : Emit) → Works (filter_rule (judged (first_expr parts)) reject) (with_rejects 1 reject) (input 0 lists) emit → HasWorked (kind.Filter test reject) parts widths lists emit
+filter_worked test reject parts widths lists emit w =
+    let rows = input 0 lists in
     let rule = filter_rule (judged (first_expr parts)) reject in
     record {
       given = w.given;
@@ -115,8 +117,9 @@ failed_unnumbered reject r (Ok values) = tt
 failed_unnumbered true r (Err why) = tt
 failed_unnumbered false r (Err why) = (refl, tt)
 
-pub transform_worked : (set : List SetSpec) (reject : Bool) (parts : OpParts) (rows : List Row) (emit : Emit) → Works (sets_rule (sets_of set parts.cols parts.exprs) reject) (with_rejects 1 reject) rows emit → HasWorked (kind.Transform set reject) parts rows emit
-transform_worked set reject parts rows emit w =
+pub transform_worked : (set : List SetSpec) (reject : Bool) (parts : OpParts) (widths : List ℕ) (lists : List (List Row)) (emit : Emit) → Works (sets_rule (sets_of set parts.cols parts.exprs) reject) (with_rejects 1 reject) (input 0 lists) emit → HasWorked (kind.Transform set reject) parts widths lists emit
+transform_worked set reject parts widths lists emit w =
+    let rows = input 0 lists in
     let sets = sets_of set parts.cols parts.exprs in
     let rule = sets_rule sets reject in
     record {
@@ -129,8 +132,9 @@ transform_worked set reject parts rows emit w =
     }
 
 -- modify
-pub modify_worked : (keep drop : List (List ℕ)) (rename : List (List ℕ × List ℕ)) (parts : OpParts) (rows : List Row) (emit : Emit) → Works (modify_rule parts.cols) 1 rows emit → HasWorked (kind.Modify keep drop rename) parts rows emit
-modify_worked keep drop rename parts rows emit w =
+pub modify_worked : (keep drop : List (List ℕ)) (rename : List (List ℕ × List ℕ)) (parts : OpParts) (widths : List ℕ) (lists : List (List Row)) (emit : Emit) → Works (modify_rule parts.cols) 1 (input 0 lists) emit → HasWorked (kind.Modify keep drop rename) parts widths lists emit
+modify_worked keep drop rename parts widths lists emit w =
+    let rows = input 0 lists in
     let rule = modify_rule parts.cols in
     record {
       given = w.given;
@@ -208,8 +212,9 @@ case_outputs n reject on_row low rows given m q = go (nat_lt q (with_rejects n r
     go true e = let k = there reject e in ap (λ p. on p given) k.0 ∙ m.rows_are q k.1
     go false e = let k = past reject e in m.no_more (place_of (n + 2) q) k.0 ∙ flat_none ((switch_rule n on_row reject).rows q) rows (λ r. behind n reject q k.1 (on_row r) (low r) r)
 
-pub switch_worked : (on_text : List ℕ) (cases : List ℤ) (reject : Bool) (parts : OpParts) (rows : List Row) (emit : Emit) → Works (switch_rule (length cases) (case_of (first_expr parts) cases) reject) (with_rejects (length cases) reject) rows emit → HasWorked (kind.Switch on_text cases reject) parts rows emit
-switch_worked on_text cases reject parts rows emit w =
+pub switch_worked : (on_text : List ℕ) (cases : List ℤ) (reject : Bool) (parts : OpParts) (widths : List ℕ) (lists : List (List Row)) (emit : Emit) → Works (switch_rule (length cases) (case_of (first_expr parts) cases) reject) (with_rejects (length cases) reject) (input 0 lists) emit → HasWorked (kind.Switch on_text cases reject) parts widths lists emit
+switch_worked on_text cases reject parts widths lists emit w =
+    let rows = input 0 lists in
     let rule = switch_rule (length cases) (case_of (first_expr parts) cases) reject in
     record {
       given = w.given;
@@ -225,26 +230,26 @@ switch_worked on_text cases reject parts rows emit w =
     fewer false q l = omega (arith, l)
 
 -- the same of an answer, where the kind is known
-pub filter_does : {E : Type 0} (k : OpKind) (test : List ℕ) (reject : Bool) (parts : OpParts) (t : TypedTree) (rows : List Row) (r : Result Emit E) → k ≡ kind.Filter test reject → t ≡ first_expr parts →
-    IfOk r (λ emit. Works (filter_rule (judged t) reject) (with_rejects 1 reject) rows emit) → IfOk r (λ emit. HasWorked k parts rows emit)
-filter_does k test reject parts t rows r known e h =
-    IfOk-weaker r (λ emit. Works (filter_rule (judged t) reject) (with_rejects 1 reject) rows emit) (λ emit. HasWorked k parts rows emit)
-    (λ emit w. subst (λ k. HasWorked k parts rows emit) (sym known) (filter_worked test reject parts rows emit (subst (λ (t : TypedTree). Works (filter_rule (judged t) reject) (with_rejects 1 reject) rows emit) e w))) h
+pub filter_does : {E : Type 0} (k : OpKind) (test : List ℕ) (reject : Bool) (parts : OpParts) (t : TypedTree) (widths : List ℕ) (lists : List (List Row)) (rows : List Row) (r : Result Emit E) → rows ≡ input 0 lists → k ≡ kind.Filter test reject → t ≡ first_expr parts →
+    IfOk r (λ emit. Works (filter_rule (judged t) reject) (with_rejects 1 reject) rows emit) → IfOk r (λ emit. HasWorked k parts widths lists emit)
+filter_does k test reject parts t widths lists rows r same known e h =
+    IfOk-weaker r (λ emit. Works (filter_rule (judged t) reject) (with_rejects 1 reject) rows emit) (λ emit. HasWorked k parts widths lists emit)
+    (λ emit w. subst (λ k. HasWorked k parts widths lists emit) (sym known) (filter_worked test reject parts widths lists emit (subst (λ (rs : List Row). Works (filter_rule (judged (first_expr parts)) reject) (with_rejects 1 reject) rs emit) same (subst (λ (t : TypedTree). Works (filter_rule (judged t) reject) (with_rejects 1 reject) rows emit) e w)))) h
 
-pub transform_does : {E : Type 0} (k : OpKind) (set : List SetSpec) (reject : Bool) (parts : OpParts) (sets : List Set) (rows : List Row) (r : Result Emit E) → k ≡ kind.Transform set reject → sets ≡ sets_of set parts.cols parts.exprs →
-    IfOk r (λ emit. Works (sets_rule sets reject) (with_rejects 1 reject) rows emit) → IfOk r (λ emit. HasWorked k parts rows emit)
-transform_does k set reject parts sets rows r known e h =
-    IfOk-weaker r (λ emit. Works (sets_rule sets reject) (with_rejects 1 reject) rows emit) (λ emit. HasWorked k parts rows emit)
-    (λ emit w. subst (λ k. HasWorked k parts rows emit) (sym known) (transform_worked set reject parts rows emit (subst (λ (s : List Set). Works (sets_rule s reject) (with_rejects 1 reject) rows emit) e w))) h
+pub transform_does : {E : Type 0} (k : OpKind) (set : List SetSpec) (reject : Bool) (parts : OpParts) (sets : List Set) (widths : List ℕ) (lists : List (List Row)) (rows : List Row) (r : Result Emit E) → rows ≡ input 0 lists → k ≡ kind.Transform set reject → sets ≡ sets_of set parts.cols parts.exprs →
+    IfOk r (λ emit. Works (sets_rule sets reject) (with_rejects 1 reject) rows emit) → IfOk r (λ emit. HasWorked k parts widths lists emit)
+transform_does k set reject parts sets widths lists rows r same known e h =
+    IfOk-weaker r (λ emit. Works (sets_rule sets reject) (with_rejects 1 reject) rows emit) (λ emit. HasWorked k parts widths lists emit)
+    (λ emit w. subst (λ k. HasWorked k parts widths lists emit) (sym known) (transform_worked set reject parts widths lists emit (subst (λ (rs : List Row). Works (sets_rule (sets_of set parts.cols parts.exprs) reject) (with_rejects 1 reject) rs emit) same (subst (λ (s : List Set). Works (sets_rule s reject) (with_rejects 1 reject) rows emit) e w)))) h
 
-pub modify_does : {E : Type 0} (k : OpKind) (keep drop : List (List ℕ)) (rename : List (List ℕ × List ℕ)) (parts : OpParts) (rows : List Row) (r : Result Emit E) → k ≡ kind.Modify keep drop rename →
-    IfOk r (λ emit. Works (modify_rule parts.cols) 1 rows emit) → IfOk r (λ emit. HasWorked k parts rows emit)
-modify_does k keep drop rename parts rows r known h =
-    IfOk-weaker r (λ emit. Works (modify_rule parts.cols) 1 rows emit) (λ emit. HasWorked k parts rows emit)
-    (λ emit w. subst (λ k. HasWorked k parts rows emit) (sym known) (modify_worked keep drop rename parts rows emit w)) h
+pub modify_does : {E : Type 0} (k : OpKind) (keep drop : List (List ℕ)) (rename : List (List ℕ × List ℕ)) (parts : OpParts) (widths : List ℕ) (lists : List (List Row)) (rows : List Row) (r : Result Emit E) → rows ≡ input 0 lists → k ≡ kind.Modify keep drop rename →
+    IfOk r (λ emit. Works (modify_rule parts.cols) 1 rows emit) → IfOk r (λ emit. HasWorked k parts widths lists emit)
+modify_does k keep drop rename parts widths lists rows r same known h =
+    IfOk-weaker r (λ emit. Works (modify_rule parts.cols) 1 rows emit) (λ emit. HasWorked k parts widths lists emit)
+    (λ emit w. subst (λ k. HasWorked k parts widths lists emit) (sym known) (modify_worked keep drop rename parts widths lists emit (subst (λ (rs : List Row). Works (modify_rule parts.cols) 1 rs emit) same w))) h
 
-pub switch_does : {E : Type 0} (k : OpKind) (text : List ℕ) (cases : List ℤ) (reject : Bool) (parts : OpParts) (t : TypedTree) (rows : List Row) (r : Result Emit E) → k ≡ kind.Switch text cases reject → t ≡ first_expr parts →
-    IfOk r (λ emit. Works (switch_rule (length cases) (case_of t cases) reject) (with_rejects (length cases) reject) rows emit) → IfOk r (λ emit. HasWorked k parts rows emit)
-switch_does k text cases reject parts t rows r known e h =
-    IfOk-weaker r (λ emit. Works (switch_rule (length cases) (case_of t cases) reject) (with_rejects (length cases) reject) rows emit) (λ emit. HasWorked k parts rows emit)
-    (λ emit w. subst (λ k. HasWorked k parts rows emit) (sym known) (switch_worked text cases reject parts rows emit (subst (λ (t : TypedTree). Works (switch_rule (length cases) (case_of t cases) reject) (with_rejects (length cases) reject) rows emit) e w))) h
+pub switch_does : {E : Type 0} (k : OpKind) (text : List ℕ) (cases : List ℤ) (reject : Bool) (parts : OpParts) (t : TypedTree) (widths : List ℕ) (lists : List (List Row)) (rows : List Row) (r : Result Emit E) → rows ≡ input 0 lists → k ≡ kind.Switch text cases reject → t ≡ first_expr parts →
+    IfOk r (λ emit. Works (switch_rule (length cases) (case_of t cases) reject) (with_rejects (length cases) reject) rows emit) → IfOk r (λ emit. HasWorked k parts widths lists emit)
+switch_does k text cases reject parts t widths lists rows r same known e h =
+    IfOk-weaker r (λ emit. Works (switch_rule (length cases) (case_of t cases) reject) (with_rejects (length cases) reject) rows emit) (λ emit. HasWorked k parts widths lists emit)
+    (λ emit w. subst (λ k. HasWorked k parts widths lists emit) (sym known) (switch_worked text cases reject parts widths lists emit (subst (λ (rs : List Row). Works (switch_rule (length cases) (case_of (first_expr parts) cases) reject) (with_rejects (length cases) reject) rs emit) same (subst (λ (t : TypedTree). Works (switch_rule (length cases) (case_of t cases) reject) (with_rejects (length cases) reject) rows emit) e w)))) h

@@ -1,13 +1,16 @@
--- The faults that operators by rows find: how many there are, and the least.
+-- The faults that operators between imports and exports find: how many there are, and the least.
 use Rattle.std.specs.Prelude.{◌≡◌, ℕ, List, ◌++◌, length, Option, Some, None}
-use Rattle.std.specs.List.{AllByRecursion, flat_map}
+use Rattle.std.specs.List.{AllByRecursion, flat_map, range_with_len}
 use Rattle.op_base.specs.declared.fault.Fault.{Fault}
 use Rattle.op_base.specs.Columns.{Row}
 use Rattle.op_base.specs.Emits.{counted, least_of}
 use Rattle.flow_graph.specs.declared.op_kind.OpKind.{OpKind}
 use Rattle.flow_graph.specs.declared.parts.OpParts.{OpParts}
-use Rattle.flow_graph.specs.RowRules.{at_op, if_worked, row_rule}
+use Rattle.flow_graph.specs.RowRules.{at_op}
+use Rattle.flow_graph.specs.Runs.{faults_on, slice}
+use Rattle.flow_ops.specs.Kept.{if_between}
 use Rattle.list_run.specs.declared.tally.Tally.{Tally}
+use Rattle.list_run.specs.Made.{degree_of, op_by}
 
 -- the number of these faults, as far as they are counted, and the least of them
 pub record Tallies (faults : List Fault) (tally : Tally) : Type 0 where
@@ -27,6 +30,10 @@ at_op_if o (Some f) = Some (at_op o f)
 abbrev pub AreUnnumbered : List Fault → Type 0
 AreUnnumbered faults = AllByRecursion (λ (f : Fault). f.op ≡ 0) faults
 
--- what the operator with the number o finds in the rows of its partitions, where it works row by row
-abbrev pub found_in : ℕ → OpKind → OpParts → List (List Row) → List Fault
-found_in o k parts lists = if_worked k (flat_map (flat_map (row_rule o k parts).faults) lists)
+-- what the operator with the number o finds in the lists of a partition, by port
+abbrev pub found_of : ℕ → OpKind → OpParts → List ℕ → List (List Row) → List Fault
+found_of o k parts widths lists = faults_on (op_by o k parts widths) 0 lists
+
+-- and in those of all partitions, where it is neither an import nor an export
+abbrev pub found_by : ℕ → OpKind → OpParts → List ℕ → List (List (List Row)) → List Fault
+found_by o k parts widths inputs = if_between k (flat_map (λ p. found_of o k parts widths (slice p inputs)) (range_with_len 0 (degree_of inputs)))

@@ -1,31 +1,40 @@
 -- Lists on their way: what one operator does with those that are held.
-use Rattle.std.specs.Prelude.{◌≡◌, ◌≢◌, ℕ, ◌<◌, ◌==◌, Bool, true, false, cond, List, [], ◌∷◌, length, map, get_or, set, nat_lt, All}
+use Rattle.std.specs.Prelude.{◌≡◌, ◌≢◌, ℕ, ◌<◌, ◌==◌, Bool, true, false, cond, List, [], ◌∷◌, length, map, get_or, nat_lt, All}
 use Rattle.op_base.specs.declared.fault.Fault.{Fault}
-use Rattle.op_base.specs.Columns.{Row}
+use Rattle.std.specs.List.{AllByRecursion}
+use Rattle.op_base.specs.Columns.{Row, IsIn}
 use Rattle.flow_graph.specs.declared.op_kind.OpKind.{OpKind}
 use Rattle.flow_graph.specs.declared.op_kind.OpKind.TheVariants as kind
 use Rattle.flow_graph.specs.declared.parts.OpParts.{OpParts}
-use Rattle.flow_graph.specs.Charts.{Chart, link_at, op_at, keys_at, parts_of, into_seq}
+use Rattle.flow_graph.specs.Charts.{Chart, link_at, links_into, op_at, keys_at, parts_of, into_seq}
+use Rattle.flow_graph.specs.Fitting.{FitsFields}
 use Rattle.flow_derive.specs.LinkStates.{choice_at}
 use Rattle.list_run.specs.declared.held.Held.{Held}
-use Rattle.list_run.specs.Found.{Grows, found_in}
-use Rattle.list_run.specs.Made.{made, made_for}
+use Rattle.list_run.specs.Found.{Grows, found_by}
+use Rattle.list_run.specs.Made.{made, made_by}
 use Rattle.list_run.specs.Routed.{Joins, SuitsRoute, delivered}
-use Rattle.flow_rules.specs.Exports.{IsExport, input_of}
-use Rattle.list_run.specs.Runnable.{degree_at, row_count}
-use Rattle.list_run.specs.Worked.{CanWork, WorksByRow, place_of}
+use Rattle.list_run.specs.Runnable.{degree_at, first_into, row_count, widths_into, IsExport}
+use Rattle.list_run.specs.Worked.{place_of}
 
--- what the operator with the number o puts on a link that leaves its output q, of the partitions that came at it and of the rows that are given for the link
-abbrev pub sent_by : ℕ → OpKind → OpParts → ℕ → List (List Row) → List Row → List (List Row)
-sent_by o (kind.Import file schema delim fixed reject) parts q lists rows = rows ∷ []
-sent_by o k parts q lists rows = map (made_for o k parts q) lists
+-- what the operator with the number o puts on a link that leaves its output q, of the partitions that came at its inputs and of the rows that are given for the link
+abbrev pub sent_by : ℕ → OpKind → OpParts → List ℕ → ℕ → List (List (List Row)) → List Row → List (List Row)
+sent_by o (kind.Import file schema delim fixed reject) parts widths q inputs rows = rows ∷ []
+sent_by o k parts widths q inputs rows = made_by o k parts widths q inputs
 
 -- the same of a link of the flow
-abbrev pub sent_from : Chart → ℕ → ℕ → List (List Row) → List Row → List (List Row)
-sent_from c l o lists rows = sent_by o (op_at c o).kind (parts_of c o) (link_at c l).out lists rows
+abbrev pub sent_from : Chart → ℕ → ℕ → List (List (List Row)) → List Row → List (List Row)
+sent_from c l o inputs rows = sent_by o (op_at c o).kind (parts_of c o) (widths_into c o) (link_at c l).out inputs rows
+
+-- what comes at the inputs of an operator, by port
+abbrev pub inputs_of : Chart → ℕ → (ℕ → List (List Row)) → List (List (List Row))
+inputs_of c o got = map got (links_into c o)
 
 abbrev pub sent_on : Chart → (ℕ → List (List Row)) → (ℕ → List Row) → ℕ → List (List Row)
-sent_on c got given l = sent_from c l (link_at c l).from (got (input_of c (link_at c l).from)) (given l)
+sent_on c got given l = sent_from c l (link_at c l).from (inputs_of c (link_at c l).from got) (given l)
+
+-- what waits on a link
+abbrev pub waits : Held → ℕ → List (List Row)
+waits held l = get_or held.waiting.items l []
 
 -- and what comes of it
 abbrev pub got_on : Chart → ℕ → ℕ → List (List Row) → List (List Row)
@@ -58,10 +67,10 @@ leaves c o l = (link_at c l).from == o
 abbrev pub leaves_but : Chart → ℕ → ℕ → ℕ → Bool
 leaves_but c o last l = cond (l == last) false (leaves c o l)
 
--- what waited at an input is taken, some faults are found in it, and some links are put
-pub record Moves (c : Chart) (nodes input : ℕ) (takes : ℕ → Bool) (sent : ℕ → List (List Row)) (faults : List Fault) (old new : Held) : Type 0 where
+-- what waited at an operator's inputs is taken, some faults are found in it, and some links are put
+pub record Moves (c : Chart) (nodes o : ℕ) (takes : ℕ → Bool) (sent : ℕ → List (List Row)) (faults : List Fault) (old new : Held) : Type 0 where
   pub mid : Held
-  pub taken : mid.waiting.items ≡ set old.waiting.items input []
+  pub others : (l : ℕ) → (link_at c l).to ≢ o → waits mid l ≡ waits old l
   pub counts : mid.counts.items ≡ old.counts.items
   pub sinks : mid.sinks.items ≡ old.sinks.items
   pub found : Grows old.tally mid.tally faults
@@ -75,13 +84,17 @@ outputs c o l = cond (nat_lt l (length c.flow.links)) (leaves c o l) false
 abbrev pub made_at : Chart → ℕ → Held → List (List Row)
 made_at c o held = map (made (op_at c o).kind (keys_at c o)) (get_or held.waiting.items (input_of c o) [])
 
--- what an operator by rows makes of that for a link
+-- what an operator makes of what waits at its inputs for a link
 abbrev pub worked_at : Chart → ℕ → Held → ℕ → List (List Row)
-worked_at c o held l = map (made_for o (op_at c o).kind (parts_of c o) (link_at c l).out) (get_or held.waiting.items (input_of c o) [])
+worked_at c o held l = made_by o (op_at c o).kind (parts_of c o) (widths_into c o) (link_at c l).out (inputs_of c o (waits held))
 
--- and what an operator finds in what comes at its input
-abbrev pub found_at : Chart → ℕ → List (List Row) → List Fault
-found_at c o lists = found_in o (op_at c o).kind (parts_of c o) lists
+-- and what it finds in what comes at its inputs
+abbrev pub found_at : Chart → ℕ → (ℕ → List (List Row)) → List Fault
+found_at c o got = found_by o (op_at c o).kind (parts_of c o) (widths_into c o) (inputs_of c o got)
+
+-- the rows that come at an operator's inputs have the fields of their links
+abbrev pub CameFits : Chart → ℕ → (ℕ → List (List Row)) → Type 0
+CameFits c o got = (l : ℕ) → IsIn l (links_into c o) → AllByRecursion (AllByRecursion (FitsFields (get_or c.schemas l []))) (got l)
 
 -- which of some lists a link has, where one list stands for each output, and what that is
 abbrev pub place_on : Chart → ℕ → ℕ → ℕ
@@ -90,19 +103,15 @@ place_on c outs l = place_of outs (link_at c l).out
 abbrev pub out_on : Chart → List (List (List Row)) → ℕ → List (List Row)
 out_on c outs l = get_or outs (place_on c (length outs) l) []
 
--- an operator by rows can work on what comes at its input
-abbrev pub CanTurn : OpKind → OpParts → List (List Row) → Type 0
-CanTurn k parts lists = WorksByRow k → CanWork k parts lists
-
 -- an operator has its turn
 pub record Steps (c : Chart) (nodes o : ℕ) (before after : List (List Row)) (old new : Held) : Type 0 where
   pub room : HasRoom c new
   pub given : length after ≡ length before
-  pub waiting : (l : ℕ) → l < length c.flow.links → (link_at c l).from ≡ o → get_or new.waiting.items l [] ≡ got_on c nodes l (sent_on c (λ i. get_or old.waiting.items i []) (λ i. get_or before i []) l)
-  pub counts : (l : ℕ) → l < length c.flow.links → (link_at c l).from ≡ o → get_or new.counts.items l 0 ≡ row_count (sent_on c (λ i. get_or old.waiting.items i []) (λ i. get_or before i []) l)
+  pub waiting : (l : ℕ) → l < length c.flow.links → (link_at c l).from ≡ o → get_or new.waiting.items l [] ≡ got_on c nodes l (sent_on c (waits old) (λ i. get_or before i []) l)
+  pub counts : (l : ℕ) → l < length c.flow.links → (link_at c l).from ≡ o → get_or new.counts.items l 0 ≡ row_count (sent_on c (waits old) (λ i. get_or before i []) l)
   pub kept : (l : ℕ) → l < length c.flow.links → (link_at c l).from ≢ o → (link_at c l).to ≢ o → get_or new.waiting.items l [] ≡ get_or old.waiting.items l []
   pub kept_counts : (l : ℕ) → l < length c.flow.links → (link_at c l).from ≢ o → get_or new.counts.items l 0 ≡ get_or old.counts.items l 0
   pub kept_given : (l : ℕ) → l < length c.flow.links → (link_at c l).from ≢ o → get_or after l [] ≡ get_or before l []
   pub sink : IsExport (op_at c o).kind → get_or new.sinks.items o [] ≡ get_or old.waiting.items (input_of c o) []
   pub kept_sinks : (p : ℕ) → p ≢ o → get_or new.sinks.items p [] ≡ get_or old.sinks.items p []
-  pub found : Grows old.tally new.tally (found_at c o (get_or old.waiting.items (input_of c o) []))
+  pub found : Grows old.tally new.tally (found_at c o (waits old))

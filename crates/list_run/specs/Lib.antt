@@ -1,6 +1,7 @@
 pub mod Dealt
 pub mod Fed
 pub mod Found
+pub mod Grouped
 pub mod Made
 pub mod Routed
 pub mod Runnable

@@ -1,5 +1,5 @@
 -- The flows that are run here, the operators of such a flow, and what a run leaves.
-use Rattle.std.specs.Prelude.{◌≡◌, ℕ, ◌<◌, ◌-◌, ◌^◌, min, Bool, true, cond, List, [], length, map, get_or, All, None}
+use Rattle.std.specs.Prelude.{◌≡◌, ℕ, ◌<◌, ◌-◌, ◌^◌, min, Bool, true, false, cond, List, [], length, map, get_or, All, ⊤, None}
 use Rattle.std.specs.List.{AllByRecursion, flat_map, range_with_len}
 use Rattle.std.specs.List.Sorted.{IsPermutation}
 use Rattle.op_base.specs.declared.fault.Fault.{Fault}
@@ -12,15 +12,17 @@ use Rattle.op_base.specs.RowOperators.{copy_rule, sink_rule}
 use Rattle.flow_graph.specs.declared.op_kind.OpKind.{OpKind}
 use Rattle.flow_graph.specs.declared.op_kind.OpKind.TheVariants as kind
 use Rattle.flow_graph.specs.declared.route.Choice.{Choice}
-use Rattle.flow_graph.specs.Charts.{Chart, link_at, all_links, links_from, op_at, is_seq, into_seq, keys_at, parts_of}
+use Rattle.flow_graph.specs.Charts.{Chart, link_at, all_links, links_into, links_from, op_at, is_seq, into_seq, keys_at, cols_at, parts_of, first_fields, width_at}
 use Rattle.flow_graph.specs.Fitting.{FitsFields, KeepsFields, PassesFields}
 use Rattle.flow_graph.specs.FlowShape.{IsShape}
-use Rattle.flow_graph.specs.Operators.{Op, import, by_row, tsort, remdup, result}
-use Rattle.flow_graph.specs.RowRules.{if_worked, row_rule}
+use Rattle.flow_graph.specs.Operators.{Op, import, by_row, tsort, remdup, group, result}
+use Rattle.flow_graph.specs.RowRules.{row_rule}
 use Rattle.flow_graph.specs.Runs.{Lists, Runs}
 use Rattle.flow_derive.specs.LinkStates.{choice_at}
 use Rattle.flow_rules.specs.Exports.{IsExport, input_of}
 use Rattle.flow_rules.specs.Verdicts.{nodes_of}
+use Rattle.flow_ops.specs.Keyed.{aggs_of, group_of}
+use Rattle.flow_ops.specs.Kept.{GivesFields, SumsFit, if_between}
 use Rattle.list_run.specs.declared.ran.Ran.{Ran}
 use Rattle.list_run.specs.Routed.{Joins}
 
@@ -28,7 +30,14 @@ use Rattle.list_run.specs.Routed.{Joins}
 abbrev pub degree_at : Chart → ℕ → ℕ → ℕ
 degree_at c nodes o = cond (is_seq (op_at c o).mark) 1 nodes
 
--- import, copy, filter, transform, modify, switch, tsort, remdup and export are run
+abbrev pub first_into : Chart → ℕ → ℕ
+first_into c o = get_or (links_into c o) 0 0
+
+-- the widths of the links into an operator, by port
+abbrev pub widths_into : Chart → ℕ → List ℕ
+widths_into c o = map (width_at c) (links_into c o)
+
+-- import, copy, filter, transform, modify, switch, tsort, remdup, group and export are run
 abbrev pub IsBuilt : Chart → ℕ → OpKind → Type 0
 IsBuilt c o (kind.Import file schema delim fixed reject) = is_seq (op_at c o).mark ≡ true
 IsBuilt c o (kind.Export file delim fixed) = links_from c o ≡ []
@@ -39,6 +48,7 @@ IsBuilt c o (kind.Modify keep drop rename) = KeepsFields c o
 IsBuilt c o (kind.Switch on cases reject) = KeepsFields c o
 IsBuilt c o (kind.Tsort key) = PassesFields c o
 IsBuilt c o (kind.Remdup key last) = PassesFields c o
+IsBuilt c o (kind.Group key hash results) = GivesFields c o (group (group_of o hash results (parts_of c o))) × AllByRecursion (SumsFit (first_fields c o)) (aggs_of results (cols_at c o)) × (hash ≡ false)
 IsBuilt c o k = ⊥
 
 -- a flow with its choices, and by link the rows that imports put there
@@ -69,6 +79,7 @@ OpIs c sources o op (kind.Modify keep drop rename) = op ≡ by_row (row_rule o (
 OpIs c sources o op (kind.Switch on cases reject) = op ≡ by_row (row_rule o (kind.Switch on cases reject) (parts_of c o))
 OpIs c sources o op (kind.Tsort key) = op ≡ tsort (get_keys (keys_at c o) 0)
 OpIs c sources o op (kind.Remdup key last) = op ≡ remdup last (get_keys (keys_at c o) 0)
+OpIs c sources o op (kind.Group key hash results) = op ≡ group (group_of o hash results (parts_of c o))
 OpIs c sources o op k = ⊥
 
 abbrev pub OpsAre : Chart → List (List Row) → (ℕ → Op) → Type 0
@@ -78,9 +89,9 @@ OpsAre c sources ops = (o : ℕ) → o < length c.flow.ops → OpIs c sources o 
 abbrev pub row_count : List (List Row) → ℕ
 row_count lists = min (length (joined lists)) (2 ^ 63 - 1)
 
--- the faults of the operators by rows, by the numbers of the operators
+-- the faults of the operators between imports and exports, by the numbers of the operators
 abbrev pub worked_faults : Chart → Lists → List Fault
-worked_faults c run = flat_map (λ o. if_worked (op_at c o).kind (joined (run.failed o))) (range_with_len 0 (length c.flow.ops))
+worked_faults c run = flat_map (λ o. if_between (op_at c o).kind (joined (run.failed o))) (range_with_len 0 (length c.flow.ops))
 
 -- how many these faults are, as far as they are counted, and the least of them, in whatever order
 pub record Counts (faults : List Fault) (ran : Ran) : Type 0 where
@@ -89,7 +100,7 @@ pub record Counts (faults : List Fault) (ran : Ran) : Type 0 where
   pub number : ran.faults ≡ counted 0 (length found)
   pub least : ran.least ≡ least_of None found
 
--- what is left is of a legal run: the numbers of rows that were put on the links, before they were routed, what came at the exports, and the faults of the operators by rows
+-- what is left is of a legal run: the numbers of rows that were put on the links, before they were routed, what came at the exports, and the faults of the operators between imports and exports
 pub record IsRunOf (c : Chart) (nodes : ℕ) (ops : ℕ → Op) (ran : Ran) : Type 0 where
   pub run : Lists
   pub legal : AllByRecursion (Runs (λ l. (choice_at c l).sort) run) (nodes_of c ops)

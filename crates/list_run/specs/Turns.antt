@@ -28,7 +28,7 @@ HadTurn c n o = IsIn o (take n c.order)
 
 -- the faults that the first n operators find, in their order
 abbrev pub found_after : Chart → ℕ → List (List Row) → ℕ → List Fault
-found_after c nodes given n = flat_map (λ o. found_at c o (got_in c nodes given (input_of c o))) (take n c.order)
+found_after c nodes given n = flat_map (λ o. found_at c o (got_in c nodes given)) (take n c.order)
 
 -- the first n operators have had their turns
 pub record Stands (c : Chart) (nodes : ℕ) (given : List (List Row)) (n : ℕ) (rest : List (List Row)) (held : Held) : Type 0 where

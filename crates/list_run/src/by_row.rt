@@ -1,6 +1,6 @@
-//! Operators that work row by row, over the rows of partitions.
+//! Operators that work row by row, over the rows of a partition.
 
-ghost use Rattle.std.specs.Prelude.{◌≡◌, ◌<◌, ◌≤◌, ◌∷◌, ◌++◌, [], ℕ, true, OnOk, IfOk, get_or, length};
+ghost use Rattle.std.specs.Prelude.{◌≡◌, ◌≤◌, ◌∷◌, [], true, IfOk, length};
 ghost use Rattle.std.specs.List.{list_all};
 ghost use Rattle.ds_schema.specs.Schemas.{row_fits};
 ghost use Rattle.expr_table.specs.declared.entry.Shape.TheVariants as shape;
@@ -9,21 +9,22 @@ ghost use Rattle.op_row.specs.ByRow.{has_columns};
 ghost use Rattle.op_row.specs.Expressed.{AreDistinct, AreSets, IsWhole, input_fields, sets_rule, with_rejects};
 ghost use Rattle.op_row.specs.Judging.{judged, case_of};
 ghost use Rattle.flow_graph.specs.RowRules.{first_expr, sets_of};
-ghost use Rattle.list_run.specs.Found.{Grows, found_in};
-ghost use Rattle.list_run.specs.Worked.{AreMade, AreWithin, CanWork, HasWorked, SuitsParts, SuitsRows, TakesPartition, Works, WorksByRow, outputs_of, sent_to};
+ghost use Rattle.list_run.specs.Worked.{Works};
 
-use crate::held::take_at;
-use crate::lanes::{Partitions, empty_lists, put_row};
-use crate::tally::Tally;
 use ds_expr::{Typed, copy_typed};
 use ds_schema::Row;
 use ds_value::{Copied, Items, NoMemory};
-use flow_graph::{OpKind, OpParts, SetSpec};
-use op_base::{Emit, Sent, run_list};
+use flow_graph::{OpParts, SetSpec};
+use op_base::{Emit, run_list};
 use op_row::{Set, filter, modify, switcher, transform};
 use std::alloc::Global;
 
-fn run_filter(alloc: Global, test: &Typed, reject: bool, rows: Vec<Row>) -> Result<Emit, NoMemory>
+pub(crate) fn run_filter(
+    alloc: Global,
+    test: &Typed,
+    reject: bool,
+    rows: Vec<Row>,
+) -> Result<Emit, NoMemory>
     requires truth { test.now.typing.shape ≡ shape.Truth }
     requires rows { list_all (row_fits test.now.fields) rows.items ≡ true }
     ensures { IfOk result (λ emit. Works (filter_rule (judged test.now) reject) (with_rejects 1 reject) rows.items emit) }
@@ -34,7 +35,7 @@ fn run_filter(alloc: Global, test: &Typed, reject: bool, rows: Vec<Row>) -> Resu
     Ok(emit)
 }
 
-fn run_transform(
+pub(crate) fn run_transform(
     alloc: Global,
     sets: Vec<Set>,
     reject: bool,
@@ -49,7 +50,7 @@ fn run_transform(
     Ok(emit)
 }
 
-fn run_modify(alloc: Global, cols: &Items<u32>, rows: Vec<Row>) -> Result<Emit, NoMemory>
+pub(crate) fn run_modify(alloc: Global, cols: &Items<u32>, rows: Vec<Row>) -> Result<Emit, NoMemory>
     requires { list_all (has_columns cols.now) rows.items ≡ true }
     ensures { IfOk result (λ emit. Works (modify_rule cols.now) 1 rows.items emit) }
 {
@@ -59,7 +60,7 @@ fn run_modify(alloc: Global, cols: &Items<u32>, rows: Vec<Row>) -> Result<Emit, 
     Ok(emit)
 }
 
-fn run_switch(
+pub(crate) fn run_switch(
     alloc: Global,
     on: &Typed,
     cases: &Items<i64>,
@@ -80,7 +81,7 @@ fn run_switch(
 }
 
 /// The one expression of a filter or a switch.
-fn first_expr(parts: &OpParts) -> &Typed
+pub(crate) fn first_expr(parts: &OpParts) -> &Typed
     requires { parts.now.exprs ≡ first_expr parts.now ∷ [] }
     ensures { result.now ≡ first_expr parts.now }
 {
@@ -88,7 +89,7 @@ fn first_expr(parts: &OpParts) -> &Typed
 }
 
 /// The sets of a transform, each with its column and its expression.
-fn sets_of(
+pub(crate) fn sets_of(
     alloc: Global,
     set: &Items<SetSpec>,
     cols: &Items<u32>,
@@ -108,107 +109,4 @@ fn sets_of(
         })?;
     }
     Ok(sets)
-}
-
-/// What an operator by rows emits for the rows of one partition.
-fn work(alloc: Global, kind: &OpKind, parts: &OpParts, rows: Vec<Row>) -> Result<Emit, NoMemory>
-    requires parts { SuitsParts kind.now parts.now }
-    requires rows { SuitsRows kind.now parts.now rows.items }
-    ensures { IfOk result (λ emit. HasWorked kind.now parts.now rows.items emit) }
-{
-    match kind {
-        OpKind::Filter { reject, .. } => run_filter(alloc, first_expr(parts), *reject, rows),
-        OpKind::Transform { set, reject } => {
-            let sets = sets_of(alloc, set, &parts.cols, &parts.exprs)?;
-            run_transform(alloc, sets, *reject, rows)
-        }
-        OpKind::Modify { .. } => run_modify(alloc, &parts.cols, rows),
-        OpKind::Switch { cases, reject, .. } => {
-            run_switch(alloc, first_expr(parts), cases, *reject, rows)
-        }
-        _ => unreachable!(),
-    }
-}
-
-/// How many lists of rows the operator gives. A list behind the outputs of a filter or a
-/// transform without rejects, and the last one of a switch, stays empty.
-fn outputs_of(kind: &OpKind) -> usize
-    requires { WorksByRow kind.now }
-    ensures { result ≡ outputs_of kind.now }
-{
-    match kind {
-        OpKind::Filter { .. } | OpKind::Transform { .. } => 2,
-        OpKind::Switch { cases, .. } => cases.as_slice().len() + 2,
-        _ => 1,
-    }
-}
-
-/// Puts each row behind those of its output.
-fn split(sent: Items<Sent>, lists: &mut Vec<Items<Row>>) -> Result<(), NoMemory>
-    requires { AreWithin (length lists.old.items) sent }
-    ensures count { OnOk result (length lists.new.items ≡ length lists.old.items) }
-    ensures each { OnOk result ((q : ℕ) → q < length lists.old.items → get_or lists.new.items q [] ≡ get_or lists.old.items q [] ++ sent_to q sent) }
-{
-    for one in sent.into_vec() {
-        put_row(lists, one.port, one.row)?;
-    }
-    Ok(())
-}
-
-/// Puts each list behind the partitions of its output.
-fn add_partition(
-    alloc: Global,
-    lists: Vec<Items<Row>>,
-    outs: &mut Vec<Partitions>,
-) -> Result<(), NoMemory>
-    requires { length lists.items ≡ length outs.old.items }
-    ensures count { OnOk result (length outs.new.items ≡ length outs.old.items) }
-    ensures each { OnOk result ((q : ℕ) → q < length outs.old.items → get_or outs.new.items q [] ≡ get_or outs.old.items q [] ++ get_or lists.items q [] ∷ []) }
-{
-    let mut lists = lists;
-    for at in 0..outs.len() {
-        let rows = take_at(alloc, &mut lists, at);
-        outs[at].push(rows)?;
-    }
-    Ok(())
-}
-
-/// Puts what was sent of a partition behind the partitions before it, by output.
-fn take_partition(
-    alloc: Global,
-    sent: Items<Sent>,
-    outs: &mut Vec<Partitions>,
-) -> Result<(), NoMemory>
-    requires { AreWithin (length outs.old.items) sent }
-    ensures { OnOk result (TakesPartition sent outs.old.items outs.new.items) }
-{
-    let mut lists = empty_lists(alloc, outs.len())?;
-    split(sent, &mut lists)?;
-    add_partition(alloc, lists, outs)?;
-    Ok(())
-}
-
-/// What an operator by rows makes of the rows of each partition, by output. Its faults are
-/// tallied.
-pub(crate) fn work_on_rows(
-    alloc: Global,
-    op: u32,
-    kind: &OpKind,
-    parts: &OpParts,
-    lists: Partitions,
-    tally: &mut Tally,
-) -> Result<Vec<Partitions>, NoMemory>
-    requires by_row { WorksByRow kind.now }
-    requires can { CanWork kind.now parts.now lists }
-    ensures made { IfOk result (λ outs. AreMade op kind.now parts.now lists outs.items) }
-    ensures found { OnOk result (Grows tally.old tally.new (found_in op kind.now parts.now lists)) }
-{
-    let mut outs = empty_lists(alloc, outputs_of(kind))?;
-    for rows in lists.into_vec() {
-        let part = rows.into_vec();
-        let emit = work(alloc, kind, parts, part)?;
-        take_partition(alloc, emit.sent, &mut outs)?;
-        tally.add(op, emit.faults, emit.least);
-    }
-    Ok(outs)
 }

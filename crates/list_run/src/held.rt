@@ -9,7 +9,8 @@ use std::alloc::Global;
 use std::mem;
 
 /// By link, what waits for its consumer, and how many rows were put on it; by operator, what came
-/// at an export; and the faults of the operators by rows.
+/// at an export; and the faults of the operators between imports
+/// and exports.
 #[derive(Drop)]
 pub(crate) struct Held {
     pub waiting: Vec<Partitions>,

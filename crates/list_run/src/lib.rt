@@ -3,9 +3,12 @@
 
 mod by_row;
 pub mod delivery;
+mod emitting;
+mod grouping;
 mod held;
 mod lanes;
 mod numbering;
+mod partitions;
 mod ran;
 mod run;
 mod tally;

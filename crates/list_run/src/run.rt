@@ -3,23 +3,22 @@
 ghost use Rattle.std.specs.Prelude.{◌≡◌, ◌≢◌, ◌<◌, ◌==◌, ◌∷◌, [], ℕ, List, true, false, cond, nat_lt, All, OnOk, IfOk, MatchOption, length, map, get_or, set};
 ghost use Rattle.op_base.specs.Columns.{Row as Cells};
 ghost use Rattle.flow_graph.specs.FlowShape.{IsShape};
-ghost use Rattle.flow_graph.specs.Charts.{all_links, link_at, into_seq, is_seq, op_at, parts_of};
+ghost use Rattle.flow_graph.specs.Charts.{all_links, link_at, into_seq, is_seq, op_at};
 ghost use Rattle.flow_derive.specs.LinkStates.{choice_at};
 ghost use Rattle.list_run.specs.Found.{Tallies};
-ghost use Rattle.list_run.specs.Held.{CanTurn, HasRoom, MaySend, Moves, Puts, Steps, found_at, leaves, leaves_but, made_at, out_on, outputs, place_on, sent_on, worked_at};
+ghost use Rattle.list_run.specs.Held.{CameFits, HasRoom, MaySend, Moves, Puts, Steps, found_at, inputs_of, leaves, leaves_but, made_at, out_on, outputs, place_on, sent_on, waits, worked_at};
 ghost use Rattle.list_run.specs.Routed.{Joins, SuitsRoute};
-ghost use Rattle.flow_rules.specs.Exports.{input_of};
-ghost use Rattle.list_run.specs.Runnable.{CanRun, IsBuilt, IsRunOf, IsRunnable, OpsAre, degree_at, row_count};
+ghost use Rattle.list_run.specs.Runnable.{CanRun, IsBuilt, IsRunOf, IsRunnable, OpsAre, degree_at, first_into, row_count, widths_into};
 ghost use Rattle.list_run.specs.Turns.{Stands};
-ghost use Rattle.list_run.specs.Worked.{CanWork, WorksByRow};
+ghost use Rattle.list_run.specs.Worked.{IsWorked};
 ghost use Rattle.flow_graph.specs.Operators.{Op};
 
-use crate::by_row::work_on_rows;
 use crate::delivery::{deliver, one_partition};
+use crate::emitting::work_on_each;
 use crate::held::{Held, take_at};
 use crate::lanes::{Partitions, copy_partitions};
 use crate::ran::Ran;
-use crate::work::work_on_each;
+use crate::work::pass_each;
 use ds_schema::Row;
 use ds_value::{Items, NoMemory};
 use flow_graph::{Choice, Mark, OpKind, Shaped};
@@ -66,6 +65,40 @@ fn input_of(shaped: &Shaped, op: u32) -> usize
         }
     }
     0
+}
+
+/// Takes what waits at the operator's inputs, by port.
+fn take_inputs(
+    alloc: Global,
+    shaped: &Shaped,
+    op: u32,
+    waiting: &mut Vec<Partitions>,
+) -> Result<Vec<Partitions>, NoMemory>
+    ensures inputs { IfOk result (λ inputs. inputs.items ≡ inputs_of shaped.now op (λ l. get_or waiting.old.items l [])) }
+    ensures others { OnOk result ((l : ℕ) → (link_at shaped.now l).to ≢ op → get_or waiting.new.items l [] ≡ get_or waiting.old.items l []) }
+    ensures count { OnOk result (length waiting.new.items ≡ length waiting.old.items) }
+{
+    let mut inputs = Vec::new(alloc);
+    for (link, spec) in shaped.flow().links.as_slice().iter().enumerate() {
+        if spec.to == op {
+            inputs.push(take_at(alloc, waiting, link))?;
+        }
+    }
+    Ok(inputs)
+}
+
+/// The numbers of columns of the operator's inputs, by port.
+fn widths_into(alloc: Global, shaped: &Shaped, op: u32) -> Result<Vec<u32>, NoMemory>
+    requires { IsShape shaped.now }
+    ensures { IfOk result (λ widths. widths.items ≡ widths_into shaped.now op) }
+{
+    let mut widths = Vec::new(alloc);
+    for (link, spec) in shaped.flow().links.as_slice().iter().enumerate() {
+        if spec.to == op {
+            widths.push(shaped.schema(link as u32).as_slice().len() as u32)?;
+        }
+    }
+    Ok(widths)
 }
 
 /// A link that leaves the operator, if there is one.
@@ -214,7 +247,7 @@ fn take_or_copy(
     }
 }
 
-/// Puts on each link that leaves an operator by rows what that made for its output.
+/// Puts on each link that leaves an operator what that made for its output.
 fn send_outputs(
     alloc: Global,
     shaped: &Shaped,
@@ -298,18 +331,20 @@ fn pass_on(
     requires chosen { choices.now ≡ map (choice_at shaped.now) (all_links shaped.now) }
     requires some { 0 < nodes }
     requires room { HasRoom shaped.now held.old }
+    requires input { (link_at shaped.now (first_into shaped.now op)).to ≡ op }
     requires may { MaySend shaped.now nodes op (λ l. made_at shaped.now op held.old) }
-    ensures { OnOk result (Moves shaped.now nodes (input_of shaped.now op) (outputs shaped.now op) (λ l. made_at shaped.now op held.old) [] held.old held.new) }
+    ensures { OnOk result (Moves shaped.now nodes op (outputs shaped.now op) (λ l. made_at shaped.now op held.old) [] held.old held.new) }
 {
     let got = take_at(alloc, &mut held.waiting, input_of(shaped, op));
     let kind = &shaped.flow().ops.as_slice()[op as usize].kind;
-    let made = work_on_each(alloc, kind, shaped.parts(op), got)?;
+    let made = pass_each(alloc, kind, shaped.parts(op), got)?;
     send(alloc, shaped, choices, nodes, op, made, held)?;
     Ok(())
 }
 
-/// Takes what came at an operator by rows, and sends what it makes of that for each output.
-fn work_by_row(
+/// Takes what came at an operator that emits rows for some outputs, or faults, and sends what it
+/// makes of that for each output.
+fn work_on(
     alloc: Global,
     shaped: &Shaped,
     choices: &[Choice],
@@ -317,19 +352,22 @@ fn work_by_row(
     op: u32,
     held: &mut Held,
 ) -> Result<(), NoMemory>
+    requires shape { IsShape shaped.now }
     requires op { op < length shaped.now.flow.ops }
-    requires parts { length shaped.now.parts ≡ length shaped.now.flow.ops }
     requires chosen { choices.now ≡ map (choice_at shaped.now) (all_links shaped.now) }
     requires some { 0 < nodes }
     requires room { HasRoom shaped.now held.old }
-    requires by_row { WorksByRow (op_at shaped.now op).kind }
-    requires can { CanWork (op_at shaped.now op).kind (parts_of shaped.now op) (get_or held.old.waiting.items (input_of shaped.now op) []) }
+    requires worked { IsWorked (op_at shaped.now op).kind }
+    requires built { IsBuilt shaped.now op (op_at shaped.now op).kind }
+    requires fits { CameFits shaped.now op (waits held.old) }
     requires may { MaySend shaped.now nodes op (worked_at shaped.now op held.old) }
-    ensures { OnOk result (Moves shaped.now nodes (input_of shaped.now op) (outputs shaped.now op) (worked_at shaped.now op held.old) (found_at shaped.now op (get_or held.old.waiting.items (input_of shaped.now op) [])) held.old held.new) }
+    ensures { OnOk result (Moves shaped.now nodes op (outputs shaped.now op) (worked_at shaped.now op held.old) (found_at shaped.now op (waits held.old)) held.old held.new) }
 {
-    let got = take_at(alloc, &mut held.waiting, input_of(shaped, op));
+    let inputs = take_inputs(alloc, shaped, op, &mut held.waiting)?;
+    let widths = widths_into(alloc, shaped, op)?;
     let kind = &shaped.flow().ops.as_slice()[op as usize].kind;
-    let outs = work_on_rows(alloc, op, kind, shaped.parts(op), got, &mut held.tally)?;
+    let parts = shaped.parts(op);
+    let outs = work_on_each(alloc, op, kind, parts, &widths, inputs, &mut held.tally)?;
     send_outputs(alloc, shaped, choices, nodes, op, outs, held)?;
     Ok(())
 }
@@ -350,8 +388,8 @@ fn run_operator(
     requires chosen { choices.now ≡ map (choice_at shaped.now) (all_links shaped.now) }
     requires some { 0 < nodes }
     requires room { HasRoom shaped.now held.old }
-    requires can { CanTurn (op_at shaped.now op).kind (parts_of shaped.now op) (get_or held.old.waiting.items (input_of shaped.now op) []) }
-    requires may { MaySend shaped.now nodes op (sent_on shaped.now (λ i. get_or held.old.waiting.items i []) (λ i. get_or sources.old.items i [])) }
+    requires fits { CameFits shaped.now op (waits held.old) }
+    requires may { MaySend shaped.now nodes op (sent_on shaped.now (waits held.old) (λ i. get_or sources.old.items i [])) }
     ensures { OnOk result (Steps shaped.now nodes op sources.old.items sources.new.items held.old held.new) }
 {
     match &shaped.flow().ops.as_slice()[op as usize].kind {
@@ -370,8 +408,9 @@ fn run_operator(
         OpKind::Filter { .. }
         | OpKind::Transform { .. }
         | OpKind::Modify { .. }
-        | OpKind::Switch { .. } => {
-            work_by_row(alloc, shaped, choices, nodes, op, held)?;
+        | OpKind::Switch { .. }
+        | OpKind::Group { .. } => {
+            work_on(alloc, shaped, choices, nodes, op, held)?;
             Ok(())
         }
         _ => unreachable!(),

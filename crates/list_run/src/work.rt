@@ -36,18 +36,18 @@ pub fn keep_one(
     Ok(given)
 }
 
-/// The keys of input 0.
-fn first_keys(alloc: Global, parts: &OpParts) -> Result<KeyList, NoMemory>
-    ensures { IfOk result (λ keys. keys ≡ get_keys parts.now.keys 0) }
+/// The keys of an input.
+pub(crate) fn keys_of(alloc: Global, parts: &OpParts, input: usize) -> Result<KeyList, NoMemory>
+    ensures { IfOk result (λ keys. keys ≡ get_keys parts.now.keys input) }
 {
-    match parts.keys.as_slice().first() {
+    match parts.keys.as_slice().get(input) {
         Some(keys) => keys.copied(),
         None => Ok(KeyList::from_vec(Vec::new(alloc))),
     }
 }
 
 /// What a copy, a tsort or a remdup makes of the rows.
-pub(crate) fn work_on(
+fn pass(
     alloc: Global,
     kind: &OpKind,
     parts: &OpParts,
@@ -56,14 +56,14 @@ pub(crate) fn work_on(
     ensures { IfOk result (λ given. given ≡ made kind.now parts.now.keys rows) }
 {
     match kind {
-        OpKind::Tsort { .. } => sort_rows(alloc, first_keys(alloc, parts)?, rows),
-        OpKind::Remdup { last, .. } => keep_one(alloc, first_keys(alloc, parts)?, *last, rows),
+        OpKind::Tsort { .. } => sort_rows(alloc, keys_of(alloc, parts, 0)?, rows),
+        OpKind::Remdup { last, .. } => keep_one(alloc, keys_of(alloc, parts, 0)?, *last, rows),
         _ => Ok(rows),
     }
 }
 
 /// The same of each partition.
-pub(crate) fn work_on_each(
+pub(crate) fn pass_each(
     alloc: Global,
     kind: &OpKind,
     parts: &OpParts,
@@ -73,7 +73,7 @@ pub(crate) fn work_on_each(
 {
     let mut given = Items::new(alloc);
     for rows in lists.into_vec() {
-        given.push(work_on(alloc, kind, parts, rows)?)?;
+        given.push(pass(alloc, kind, parts, rows)?)?;
     }
     Ok(given)
 }

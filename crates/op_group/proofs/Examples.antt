@@ -1,4 +1,4 @@
--- Groups of sorted rows as they are fed, computed; wrong results are refused.
+-- Groups of rows as they are fed, computed; wrong results are refused.
 use Rattle.std.proofs.Common.{◌≡◌, ◌-◌, ◌^◌, ℕ, true, false, List, [], ◌∷◌, refl, pos}
 use Rattle.streams.specs.Streams.{Out, sends, fails, emits}
 use Rattle.ds_value.specs.declared.value.Value.{Value}
@@ -10,7 +10,7 @@ use Rattle.op_base.specs.Columns.{Row}
 use Rattle.op_base.specs.WholeLists.{row_feeds, list_feeds}
 use Rattle.op_group.specs.declared.agg.Agg.{Agg}
 use Rattle.op_group.specs.declared.agg.Agg.TheVariants.{Sum, Count, Min, Max, First, Last}
-use Rattle.op_group.specs.Groups.{sorted_stream, group_suits}
+use Rattle.op_group.specs.Groups.{sorted_stream, hashed_stream, group_suits}
 
 abbrev row : ℕ → Value → Row
 row key v = UInt key ∷ (v ∷ [])
@@ -47,6 +47,23 @@ no_key = refl
 
 no_row : emits (sorted_stream [] (Count ∷ [])) (list_feeds []) ≡ []
 no_row = refl
+
+-- hashed, in the order of first rows, and null is a key
+abbrev mixed_rows : List Row
+mixed_rows = row 2 (Int (pos 7)) ∷ ((Null ∷ (Int (pos 1) ∷ [])) ∷ (row 1 (Int (pos 4)) ∷ (row 2 (Int (pos 5)) ∷ ((Null ∷ (Int (pos 6) ∷ [])) ∷ []))))
+
+first_rows : emits (hashed_stream by_first (First 1 ∷ (Sum 1 ∷ []))) (list_feeds mixed_rows)
+    ≡ sends 0 (UInt 2 ∷ (Int (pos 7) ∷ (Int (pos 12) ∷ []))) ∷ (sends 0 (Null ∷ (Int (pos 1) ∷ (Int (pos 7) ∷ []))) ∷ (sends 0 (UInt 1 ∷ (Int (pos 4) ∷ (Int (pos 4) ∷ []))) ∷ []))
+first_rows = refl
+
+none_before_end : emits (hashed_stream by_first (First 1 ∷ (Sum 1 ∷ []))) (row_feeds mixed_rows) ≡ []
+none_before_end = refl
+
+no_key_hashed : emits (hashed_stream [] (Count ∷ [])) (list_feeds mixed_rows) ≡ sends 0 (UInt 5 ∷ []) ∷ []
+no_key_hashed = refl
+
+no_row_hashed : emits (hashed_stream [] (Count ∷ [])) (list_feeds []) ≡ []
+no_row_hashed = refl
 
 suited : group_suits by_first all_aggs (list_feeds some_rows) ≡ true
 suited = refl

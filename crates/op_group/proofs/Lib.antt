@@ -3,6 +3,9 @@ pub mod RunningLaws
 pub mod TallyLaws
 pub mod GiveLaws
 pub mod RunKept
+pub mod Told
+pub mod Seen
+pub mod TableLaws
 pub mod Means
 pub mod Examples
 pub mod Fixtures

@@ -26,9 +26,18 @@ number_kind (Dec z) = Some kind.Dec
 number_kind (Text b) = None
 number_kind (Date z) = None
 
-abbrev pub first_kind : List Value → Option Number
-first_kind [] = None
-first_kind (v ∷ vs) = number_kind v
+-- of several variants a decimal, else one without a sign
+abbrev pub wider : Option Number → Option Number → Option Number
+wider None more = more
+wider (Some kind.Dec) more = Some kind.Dec
+wider (Some kind.UInt) (Some kind.Dec) = Some kind.Dec
+wider (Some kind.UInt) more = Some kind.UInt
+wider (Some kind.Int) None = Some kind.Int
+wider (Some kind.Int) (Some n) = Some n
+
+abbrev pub sum_kind : List Value → Option Number
+sum_kind [] = None
+sum_kind (v ∷ vs) = wider (number_kind v) (sum_kind vs)
 
 -- between -n and n
 abbrev pub IsWithin : ℕ → ℤ → Type 0
@@ -41,8 +50,7 @@ shown v = if is_null v then [] else v ∷ []
 -- the sum of these values of so many rows
 pub record SumStands (rows : ℕ) (values : List Value) (sum : Sum) : Type 0 where
   pub total_is : sum.total ≡ total values
-  pub kind_is : sum.kind ≡ first_kind values
-  pub none : sum.kind ≡ None → values ≡ []
+  pub kind_is : sum.kind ≡ sum_kind values
   pub within : IsWithin (rows * 2 ^ 64) sum.total
 
 abbrev pub kept_sum : Option Number → ℤ → Option Value

@@ -43,19 +43,36 @@ as_int z = if is_between (least_int 64) (greatest_int 64) z then Some (Int z) el
 abbrev pub as_uint : ℤ → Option Value
 as_uint z = if is_between (pos 0) (pos (2 ^ 64 - 1)) z then Some (UInt (unsigned_abs z)) else None
 
--- a sum in the variant of a value that was summed; texts and dates have no sum
-abbrev pub sum_like : Value → ℤ → Option Value
-sum_like Null z = Some Null
-sum_like (Int n) z = as_int z
-sum_like (UInt n) z = as_uint z
-sum_like (Dec n) z = Some (Dec z)
-sum_like (Text b) z = Some Null
-sum_like (Date n) z = Some Null
+abbrev pub is_int : Value → Bool
+is_int Null = false
+is_int (Int z) = true
+is_int (UInt n) = false
+is_int (Dec z) = false
+is_int (Text b) = false
+is_int (Date z) = false
 
--- null where nothing is left; nothing where the sum doesn't fit
+abbrev pub is_uint : Value → Bool
+is_uint Null = false
+is_uint (Int z) = false
+is_uint (UInt n) = true
+is_uint (Dec z) = false
+is_uint (Text b) = false
+is_uint (Date z) = false
+
+abbrev pub is_dec : Value → Bool
+is_dec Null = false
+is_dec (Int z) = false
+is_dec (UInt n) = false
+is_dec (Dec z) = true
+is_dec (Text b) = false
+is_dec (Date z) = false
+
+-- in the variant of the values that were summed; of several a decimal where there is one, else without a sign; null where nothing is left, nothing where the sum doesn't fit
 abbrev pub sum_of : List Value → Option Value
-sum_of [] = Some Null
-sum_of (v ∷ vs) = sum_like v (total (v ∷ vs))
+sum_of vs =
+    if list_any is_dec vs then Some (Dec (total vs)) else
+    if list_any is_uint vs then as_uint (total vs) else
+    if list_any is_int vs then as_int (total vs) else Some Null
 
 abbrev pub lesser : Value → Value → Value
 lesser v w = if is_lt (value_cmp w v) then w else v

@@ -4,14 +4,17 @@
 mod agg;
 mod giving;
 mod groups;
+mod hashed;
 pub mod laws;
 mod running;
 mod sorted;
 mod sum;
+mod table;
 mod tally;
 
 pub use agg::Agg;
-pub use groups::group_sorted;
+pub use groups::{group_hashed, group_sorted};
+pub use hashed::GroupHashed;
 pub use sorted::GroupSorted;
 
 #[cfg(test)]

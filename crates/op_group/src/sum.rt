@@ -3,7 +3,7 @@ ghost use Rattle.ds_value.specs.declared.value.Value.{Value as Cell};
 ghost use Rattle.ds_value.specs.Values.{number};
 ghost use Rattle.op_group.specs.Results.{as_int, as_uint};
 ghost use Rattle.op_group.specs.Groups.{is_summable};
-ghost use Rattle.op_group.specs.Kept.{IsWithin, SumStands, number_kind, kept_sum, shown};
+ghost use Rattle.op_group.specs.Kept.{IsWithin, SumStands, number_kind, kept_sum, shown, wider};
 
 use ds_value::Value;
 
@@ -15,7 +15,7 @@ pub enum Number {
     Dec,
 }
 
-/// The exact sum of a column so far, and the variant of its values once there is one.
+/// The exact sum of a column so far, and its variant once there is a value.
 #[derive(Debug, Drop)]
 pub struct Sum {
     pub col: u32,
@@ -31,6 +31,24 @@ fn number_kind(value: &Value) -> Option<Number>
         Value::UInt(_) => Some(Number::UInt),
         Value::Dec(_) => Some(Number::Dec),
         _ => None,
+    }
+}
+
+/// The variant of a sum of values of these two.
+fn wider(kind: Option<Number>, more: Option<Number>) -> Option<Number>
+    ensures { result ≡ wider kind more }
+{
+    match kind {
+        None => more,
+        Some(Number::Int) => match more {
+            None => Some(Number::Int),
+            Some(other) => Some(other),
+        },
+        Some(Number::UInt) => match more {
+            Some(Number::Dec) => Some(Number::Dec),
+            _ => Some(Number::UInt),
+        },
+        Some(Number::Dec) => Some(Number::Dec),
     }
 }
 
@@ -100,9 +118,7 @@ impl Sum {
         ensures stands { (values : List Cell) → SumStands before values self.old → SumStands (before + 1) (values ++ shown value.now) self.new }
     {
         self.total = plus(self.total, amount(value), before);
-        if self.kind.is_none() {
-            self.kind = number_kind(value);
-        }
+        self.kind = wider(self.kind, number_kind(value));
     }
 
     /// The sum as a value, or nothing where it doesn't fit its variant.

@@ -1,26 +1,57 @@
-ghost use Rattle.std.specs.Prelude.{◌≡◌, ◌∷◌, [], ℕ, ℤ, false, List, IfOk};
-ghost use Rattle.std.specs.List.{AllByRecursion};
-ghost use Rattle.ds_value.specs.declared.value.Value.{Value as Cell};
+ghost use Rattle.std.specs.Prelude.{◌≡◌, ◌∷◌, [], ℤ, nat_lt, true, List, IfOk};
+ghost use Rattle.std.specs.List.{AllByRecursion, list_all};
+ghost use Rattle.ds_value.specs.declared.value.Value.{Value as Content};
+ghost use Rattle.ds_schema.specs.Rows.{cols};
+ghost use Rattle.op_base.specs.Columns.{is_short};
 
 use super::*;
+use Cell::{Int, Null, UInt};
 use ds_schema::{Key, KeyList, Row};
-use ds_value::{Copied, Value};
-use op_base::{Emit, FaultKind, run_list};
+use ds_value::Value;
+use op_base::{Emit, Fault, FaultKind, run_list};
 use std::alloc::Global;
 use std::test::Fail;
 
-fn row(alloc: Global, key: u64, number: i64) -> Result<Row, Fail>
-    ensures { IfOk result (λ row. row ≡ Value.UInt key ∷ (Value.Int number ∷ [])) }
+/// A value that a group gives.
+#[derive(Clone, Copy)]
+enum Cell {
+    Null,
+    UInt(u64),
+    Int(i64),
+}
+
+/// The rows that are sent, the number of faults, and the bytes of the least of them.
+#[derive(Clone, Copy)]
+struct Given {
+    rows: &'static [&'static [Cell]],
+    faults: u64,
+    bytes: &'static [u8],
+}
+
+/// Rows of a key and a number, and what each operator gives of them, by the first column or by
+/// none.
+#[derive(Clone, Copy)]
+struct Case {
+    keyed: bool,
+    rows: &'static [(Option<u64>, i64)],
+    sorted: Given,
+    hashed: Given,
+}
+
+fn row(alloc: Global, key: Option<u64>, number: i64) -> Result<Row, Fail>
+    ensures { IfOk result (λ row. (key : Content) × (is_short key ≡ true) × (row ≡ key ∷ (Value.Int number ∷ []))) }
 {
     let mut values = Vec::new(alloc);
-    values.push(Value::UInt(key))?;
+    values.push(match key {
+        None => Value::Null,
+        Some(key) => Value::UInt(key),
+    })?;
     values.push(Value::Int(number))?;
     Ok(Row::from_vec(values))
 }
 
-/// Rows of a key and a number.
-fn rows(alloc: Global, cells: &[(u64, i64)]) -> Result<Vec<Row>, Fail>
-    ensures { IfOk result (λ rows. AllByRecursion (λ (row : List Cell). (key : ℕ) × (number : ℤ) × (row ≡ Value.UInt key ∷ (Value.Int number ∷ []))) rows.items) }
+fn rows(alloc: Global, cells: &[(Option<u64>, i64)]) -> Result<Vec<Row>, Fail>
+    ensures { IfOk result (λ rows. AllByRecursion (λ (row : List Content). (key : Content) × (number : ℤ) × (is_short key ≡ true) × (row ≡ key ∷ (Value.Int number ∷ []))) rows.items) }
 {
     let mut rows = Vec::new(alloc);
     for (key, number) in cells {
@@ -29,14 +60,16 @@ fn rows(alloc: Global, cells: &[(u64, i64)]) -> Result<Vec<Row>, Fail>
     Ok(rows)
 }
 
-fn by_first(alloc: Global) -> Result<KeyList, Fail>
-    ensures { IfOk result (λ keys. keys ≡ record { col = 0; desc = false } ∷ []) }
+fn keys(alloc: Global, keyed: bool) -> Result<KeyList, Fail>
+    ensures { IfOk result (λ keys. list_all (λ c. nat_lt c 2) (cols keys) ≡ true) }
 {
     let mut keys = Vec::new(alloc);
-    keys.push(Key {
-        col: 0,
-        desc: false,
-    })?;
+    if keyed {
+        keys.push(Key {
+            col: 0,
+            desc: false,
+        })?;
+    }
     Ok(KeyList::from_vec(keys))
 }
 
@@ -54,68 +87,157 @@ fn each_agg(alloc: Global) -> Result<Vec<Agg>, Fail>
     Ok(aggs)
 }
 
-fn grouped(alloc: Global, cells: &[(u64, i64)]) -> Result<Emit, Fail> {
-    let rows = rows(alloc, cells)?;
-    let keys = by_first(alloc)?;
-    let aggs = each_agg(alloc)?;
-    let mut op = group_sorted(alloc, keys, aggs)?;
+fn sorted(alloc: Global, case: &Case) -> Result<Emit, Fail> {
+    let rows = rows(alloc, case.rows)?;
+    let mut op = group_sorted(alloc, keys(alloc, case.keyed)?, each_agg(alloc)?)?;
     Ok(run_list(alloc, &mut op, rows)?)
 }
 
-/// The numbers in the rows that were sent, row by row.
-fn numbers(alloc: Global, emit: &Emit) -> Result<Vec<i128>, Fail> {
-    let mut numbers = Vec::new(alloc);
-    for sent in emit.sent.as_slice() {
-        for value in sent.row.as_slice() {
-            match value {
-                Value::UInt(number) => numbers.push(i128::from(*number))?,
-                Value::Int(number) => numbers.push(i128::from(*number))?,
-                _ => {}
-            }
-        }
+fn hashed(alloc: Global, case: &Case) -> Result<Emit, Fail> {
+    let rows = rows(alloc, case.rows)?;
+    let mut op = group_hashed(alloc, keys(alloc, case.keyed)?, each_agg(alloc)?)?;
+    Ok(run_list(alloc, &mut op, rows)?)
+}
+
+fn is_cell(value: &Value, cell: Cell) -> bool {
+    match (value, cell) {
+        (Value::Null, Cell::Null) => true,
+        (Value::UInt(uint), Cell::UInt(other)) => *uint == other,
+        (Value::Int(int), Cell::Int(other)) => *int == other,
+        _ => false,
     }
-    Ok(numbers)
 }
 
-#[test]
-fn each_run_is_a_row(rt: HostRuntime) -> Result<(), Fail> {
-    let alloc = rt.alloc();
-    let cells: [(u64, i64); 4] = [(1, 7), (1, -3), (2, 5), (1, 9)];
-    let expected: [i128; 21] = [
-        1, 4, 2, -3, 7, 7, -3, 2, 5, 1, 5, 5, 5, 5, 1, 9, 1, 9, 9, 9, 9,
-    ];
-    let emit = grouped(alloc, &cells)?;
-    let found = numbers(alloc, &emit)?;
-    assert!(rt; found.as_slice() == expected.as_slice());
-    assert_eq!(rt; emit.faults, 0);
-    Ok(())
+fn is_row(row: &Row, cells: &[Cell]) -> bool {
+    let values = row.as_slice();
+    values.len() == cells.len()
+        && values
+            .iter()
+            .zip(cells)
+            .all(|(value, cell)| is_cell(value, *cell))
 }
 
-#[test]
-fn whole_sums_overflow(rt: HostRuntime) -> Result<(), Fail> {
-    let alloc = rt.alloc();
-    let cells: [(u64, i64); 5] = [(1, i64::MAX), (1, 1), (2, i64::MAX), (2, 1), (2, -1)];
-    let most = i128::from(i64::MAX);
-    let expected: [i128; 7] = [2, most, 3, -1, most, most, -1];
-    let emit = grouped(alloc, &cells)?;
-    let found = numbers(alloc, &emit)?;
-    assert!(rt; found.as_slice() == expected.as_slice());
-    assert_eq!(rt; emit.faults, 1);
-    match Copied::copied(&emit.least)? {
-        None => assert!(rt; false),
+fn is_least(least: &Option<Fault>, given: &Given) -> bool {
+    match least {
+        None => given.faults == 0,
         Some(fault) => {
-            assert_eq!(rt; fault.kind, FaultKind::Overflow);
-            assert!(rt; fault.bytes.as_slice() == [2, 0, 0, 0, 0, 0, 0, 0, 1].as_slice());
+            fault.op == 0
+                && fault.kind == FaultKind::Overflow
+                && fault.place == 0
+                && fault.bytes.as_slice() == given.bytes
         }
     }
-    Ok(())
 }
 
+fn is_given(emit: &Emit, given: &Given) -> bool {
+    let sent = emit.sent.as_slice();
+    sent.len() == given.rows.len()
+        && sent
+            .iter()
+            .zip(given.rows)
+            .all(|(sent, cells)| sent.port == 0 && is_row(&sent.row, cells))
+        && emit.faults == given.faults
+        && is_least(&emit.least, given)
+}
+
+const NOTHING: Given = Given {
+    rows: &[],
+    faults: 0,
+    bytes: b"",
+};
+
+/// The greatest whole number.
+const MOST: i64 = i64::MAX;
+
+const CASES: &[Case] = &[
+    // Keys that come again after others, and null.
+    Case {
+        keyed: true,
+        rows: &[
+            (Some(2), 7),
+            (Some(1), 8),
+            (None, 9),
+            (Some(2), 5),
+            (None, -1),
+            (None, 4),
+        ],
+        sorted: Given {
+            rows: &[
+                &[UInt(2), Int(7), UInt(1), Int(7), Int(7), Int(7), Int(7)],
+                &[UInt(1), Int(8), UInt(1), Int(8), Int(8), Int(8), Int(8)],
+                &[Null, Int(9), UInt(1), Int(9), Int(9), Int(9), Int(9)],
+                &[UInt(2), Int(5), UInt(1), Int(5), Int(5), Int(5), Int(5)],
+                &[Null, Int(3), UInt(2), Int(-1), Int(4), Int(-1), Int(4)],
+            ],
+            ..NOTHING
+        },
+        hashed: Given {
+            rows: &[
+                &[UInt(2), Int(12), UInt(2), Int(5), Int(7), Int(7), Int(5)],
+                &[UInt(1), Int(8), UInt(1), Int(8), Int(8), Int(8), Int(8)],
+                &[Null, Int(12), UInt(3), Int(-1), Int(9), Int(9), Int(4)],
+            ],
+            ..NOTHING
+        },
+    },
+    // Two groups overflow, the lesser key after the greater. A third has a greater number only
+    // on its way.
+    Case {
+        keyed: true,
+        rows: &[
+            (Some(5), MOST),
+            (Some(5), 1),
+            (Some(2), MOST),
+            (Some(2), 1),
+            (Some(3), MOST),
+            (Some(3), 1),
+            (Some(3), -1),
+        ],
+        sorted: ONE_OF_THREE,
+        hashed: ONE_OF_THREE,
+    },
+    // Without a key all rows are one group, and no row is in none.
+    Case {
+        keyed: false,
+        rows: &[(Some(2), 7), (Some(1), -3)],
+        sorted: ALL_ROWS,
+        hashed: ALL_ROWS,
+    },
+    Case {
+        keyed: false,
+        rows: &[],
+        sorted: NOTHING,
+        hashed: NOTHING,
+    },
+];
+
+const ONE_OF_THREE: Given = Given {
+    rows: &[&[
+        UInt(3),
+        Int(MOST),
+        UInt(3),
+        Int(-1),
+        Int(MOST),
+        Int(MOST),
+        Int(-1),
+    ]],
+    faults: 2,
+    bytes: b"\x02\0\0\0\0\0\0\0\x02",
+};
+
+const ALL_ROWS: Given = Given {
+    rows: &[&[Int(4), UInt(2), Int(-3), Int(7), Int(7), Int(-3)]],
+    ..NOTHING
+};
+
 #[test]
-fn no_row_gives_no_group(rt: HostRuntime) -> Result<(), Fail> {
+fn rows_are_grouped(rt: HostRuntime) -> Result<(), Fail> {
     let alloc = rt.alloc();
-    let emit = grouped(alloc, &[])?;
-    assert_eq!(rt; emit.sent.as_slice().len(), 0);
-    assert_eq!(rt; emit.faults, 0);
+    for case in CASES {
+        let emit = sorted(alloc, case)?;
+        assert!(rt; is_given(&emit, &case.sorted));
+        let emit = hashed(alloc, case)?;
+        assert!(rt; is_given(&emit, &case.hashed));
+    }
     Ok(())
 }

@@ -35,3 +35,8 @@ none_both (Some why ∷ xs) ys e = cc
 -- of several places and two more
 pub first_three : (a : List (Option ShapeWhy)) (b d x : Option ShapeWhy) → x ≡ first_cause a → first_cause (a ++ (b ∷ (d ∷ []))) ≡ or_else x (or_else b d)
 first_three a b d x e = first_both a (b ∷ (d ∷ [])) ∙ (ap (λ o. or_else o (first_cause (b ∷ (d ∷ [])))) (sym e) ∙ ap (or_else x) (first_more b (d ∷ []) ∙ ap (or_else b) (first_one d)))
+
+-- of several places behind one where nothing is wrong, and one more
+pub first_behind : (c : Option ShapeWhy) (xs : List (Option ShapeWhy)) (d : Option ShapeWhy) → c ≡ None → first_cause ((c ∷ xs) ++ (d ∷ [])) ≡ or_else (first_cause xs) d
+first_behind None xs d e = first_both xs (d ∷ []) ∙ ap (or_else (first_cause xs)) (first_one d)
+first_behind (Some why) xs d e = cc

@@ -92,21 +92,15 @@ sets_fit fields set reject o e = (
   input_is fields set (set_columns fields set) o.0 (columns_length fields set) e.typed,
 )
 
-pub exprs_fit : (k : OpKind) (fields : List Field) → IsKnown k → OptionsStand k → FewCases k → first_cause (option_causes k (fields ∷ []) ++ output_causes k (fields ∷ [])) ≡ None → ExprsFit fields k (operator_parts k (fields ∷ []))
-exprs_fit (kind.Import file schema delim fixed reject) fields h o few e = tt
-exprs_fit (kind.Export file delim fixed) fields h o few e = tt
-exprs_fit kind.Copy fields h o few e = tt
-exprs_fit (kind.Filter test reject) fields h o few e =
-    let over = typed_over is_test fields test (none_head (expr_cause is_test fields test) [] e).0 in
-    (refl, over.over, truth_is (expr_over fields test).typing.shape over.passes)
-exprs_fit (kind.Transform set reject) fields h o few e = sets_fit fields set reject o (settled fields set _ e)
-exprs_fit (kind.Modify keep drop rename) fields h o few e = tt
-exprs_fit (kind.Switch on cases reject) fields h o few e =
-    let over = typed_over is_whole fields on (none_head (expr_cause is_whole fields on) [] e).0 in
-    (refl, over.over, whole_is (expr_over fields on) over.passes, o, few)
-exprs_fit (kind.Tsort key) fields h o few e = tt
-exprs_fit (kind.Remdup key last) fields h o few e = tt
-exprs_fit k fields h o few e = absurd h
+pub exprs_fit : (k : OpKind) (ins : List (List Field)) → IsKnown k → OptionsStand k → FewCases k → first_cause (option_causes k ins ++ output_causes k ins) ≡ None → ExprsFit (first_fields ins) k (operator_parts k ins)
+exprs_fit (kind.Filter test reject) ins h o few e =
+    let over = typed_over is_test (first_fields ins) test (none_head (expr_cause is_test (first_fields ins) test) [] e).0 in
+    (refl, over.over, truth_is (expr_over (first_fields ins) test).typing.shape over.passes)
+exprs_fit (kind.Transform set reject) ins h o few e = sets_fit (first_fields ins) set reject o (settled (first_fields ins) set _ e)
+exprs_fit (kind.Switch on cases reject) ins h o few e =
+    let over = typed_over is_whole (first_fields ins) on (none_head (expr_cause is_whole (first_fields ins) on) [] e).0 in
+    (refl, over.over, whole_is (expr_over (first_fields ins) on) over.passes, o, few)
+exprs_fit k ins h o few e = tt
 
 -- ---- the columns of an operator lie among its fields
 

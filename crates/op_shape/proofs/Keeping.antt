@@ -20,7 +20,7 @@ pub all_passing : {X : Type 0} (P : X → Type 0) (p : X → Bool) (xs : List X)
 all_passing P p [] a = tt
 all_passing P p (x ∷ xs) a = passing_by P (p x) x (filter p xs) a.0 (all_passing P p xs a.1)
 
-range_within : (a n m : ℕ) → a + n ≤ m → AllByRecursion (λ c. c < m) (range_with_len a n)
+pub range_within : (a n m : ℕ) → a + n ≤ m → AllByRecursion (λ c. c < m) (range_with_len a n)
 range_within a n m h = all_range n a h
   where
     all_range : (k b : ℕ) → b + k ≤ m → AllByRecursion (λ c. c < m) (range_with_len b k)
@@ -43,7 +43,7 @@ modified_length keep drop rename fields = length-map (kept_fields keep drop fiel
 abbrev pub left_to : List (List ℕ) → List Field → ℕ → List ℕ
 left_to drop fields i = filter (λ c. not (is_among drop (field_at fields c).name)) (range_with_len 0 i)
 
-range_more : (a n c : ℕ) → a + n ≡ c → range_with_len a (suc n) ≡ range_with_len a n ++ c ∷ []
+pub range_more : (a n c : ℕ) → a + n ≡ c → range_with_len a (suc n) ≡ range_with_len a n ++ c ∷ []
 range_more a zero c e = ap (λ x. x ∷ []) (let h : a ≡ c = omega (arith, e) in h)
 range_more a (suc n) c e = ap (λ cs. a ∷ cs) (range_more (a + 1) n c (omega (arith, e)))
 

@@ -1,5 +1,5 @@
 -- What is wrong at an operator's options and outputs, and the fields of its outputs, by the fields of its inputs.
-use Rattle.std.specs.Prelude.{ℕ, zero, suc, ◌<◌, ◌==◌, Bool, true, false, not, List, [], ◌∷◌, ◌++◌, length, map, get_or, Option, Some, None, codes}
+use Rattle.std.specs.Prelude.{◌≡◌, ℕ, zero, suc, ◌<◌, ◌==◌, Bool, true, false, not, List, [], ◌∷◌, ◌++◌, length, map, get_or, Option, Some, None, codes}
 use Rattle.std.specs.List.{AllByRecursion}
 use Rattle.ds_value.specs.declared.kind.Kind.TheVariants as data_kind
 use Rattle.ds_schema.specs.declared.schema.Field.{Field}
@@ -8,6 +8,7 @@ use Rattle.ds_schema.specs.Schemas.{IsField, IsFieldName}
 use Rattle.op_row.specs.Expressed.{AreDistinct}
 use Rattle.flow_graph.specs.declared.op_kind.OpKind.{OpKind}
 use Rattle.flow_graph.specs.declared.op_kind.OpKind.TheVariants as kind
+use Rattle.flow_graph.specs.declared.op_kind.AggSpec.{AggSpec}
 use Rattle.flow_graph.specs.declared.op_kind.SetSpec.{SetSpec}
 use Rattle.flow_graph.specs.declared.parts.OpParts.{OpParts}
 use Rattle.op_shape.specs.declared.fault.ShapeWhy.{ShapeWhy}
@@ -15,8 +16,19 @@ use Rattle.op_shape.specs.declared.fault.ShapeWhy.TheVariants as why
 use Rattle.op_shape.specs.Causes.{cause_if}
 use Rattle.op_shape.specs.Columns.{columns_cause, has_renamed, kept_columns, kept_fields, modified_fields, set_columns, set_fields, sets_cause}
 use Rattle.op_shape.specs.Exprs.{exprs_of, on_cause, set_causes, test_cause}
+use Rattle.op_shape.specs.Keyed.{both_cause, group_fields, join_fields, lookup_fields, result_causes, result_name, source_columns}
 use Rattle.op_shape.specs.Naming.{has_keys, key_columns, NamesDiffer}
 use Rattle.op_shape.specs.Widths.{fields_cause}
+
+-- the operators by keys that make fields of their own
+abbrev pub IsKeyed : OpKind → Type 0
+IsKeyed (kind.Group key hash results) = Unit {0}
+IsKeyed (kind.InnerJoin key) = Unit {0}
+IsKeyed (kind.LeftOuterJoin key) = Unit {0}
+IsKeyed (kind.RightOuterJoin key) = Unit {0}
+IsKeyed (kind.FullOuterJoin key) = Unit {0}
+IsKeyed (kind.Lookup key missing) = Unit {0}
+IsKeyed k = ⊥
 
 -- the operators whose options and outputs are defined here so far
 abbrev pub IsKnown : OpKind → Type 0
@@ -29,21 +41,23 @@ IsKnown (kind.Modify keep drop rename) = Unit {0}
 IsKnown (kind.Switch on cases reject) = Unit {0}
 IsKnown (kind.Tsort key) = Unit {0}
 IsKnown (kind.Remdup key last) = Unit {0}
-IsKnown k = ⊥
+IsKnown k = IsKeyed k
 
 abbrev pub first_fields : List (List Field) → List Field
 first_fields ins = get_or ins 0 []
 
--- the fields of input 0; none where there is no input
-abbrev pub fields_in : Option (List Field) → List Field
-fields_in (Some fields) = fields
-fields_in None = []
+abbrev pub second_fields : List (List Field) → List Field
+second_fields ins = get_or ins 1 []
 
--- every operator but an import has an input
-abbrev pub IsFed : OpKind → Option (List Field) → Type 0
-IsFed (kind.Import file schema delim fixed reject) first = Unit {0}
-IsFed k (Some fields) = Unit {0}
-IsFed k None = ⊥
+-- how many inputs the operators that are defined here have: an import none, a join and a lookup two, the others one
+abbrev pub IsFed : OpKind → ℕ → Type 0
+IsFed (kind.Import file schema delim fixed reject) n = n ≡ 0
+IsFed (kind.InnerJoin key) n = n ≡ 2
+IsFed (kind.LeftOuterJoin key) n = n ≡ 2
+IsFed (kind.RightOuterJoin key) n = n ≡ 2
+IsFed (kind.FullOuterJoin key) n = n ≡ 2
+IsFed (kind.Lookup key missing) n = n ≡ 2
+IsFed k n = n ≡ 1
 
 -- fixed widths are one for each column
 abbrev pub widths_suit : Option (List ℕ) → List Field → Bool
@@ -71,6 +85,12 @@ option_causes (kind.Modify keep drop rename) ins =
 option_causes (kind.Switch on cases reject) ins = on_cause (first_fields ins) on ∷ []
 option_causes (kind.Tsort key) ins = key_cause key (first_fields ins) ∷ []
 option_causes (kind.Remdup key last) ins = key_cause key (first_fields ins) ∷ []
+option_causes (kind.Group key hash results) ins = key_cause key (first_fields ins) ∷ result_causes results (first_fields ins)
+option_causes (kind.InnerJoin key) ins = both_cause key (first_fields ins) (second_fields ins) ∷ []
+option_causes (kind.LeftOuterJoin key) ins = both_cause key (first_fields ins) (second_fields ins) ∷ []
+option_causes (kind.RightOuterJoin key) ins = both_cause key (first_fields ins) (second_fields ins) ∷ []
+option_causes (kind.FullOuterJoin key) ins = both_cause key (first_fields ins) (second_fields ins) ∷ []
+option_causes (kind.Lookup key missing) ins = both_cause key (first_fields ins) (second_fields ins) ∷ []
 option_causes k ins = []
 
 -- at the outputs, where they have fields of their own
@@ -78,6 +98,12 @@ abbrev pub output_causes : OpKind → List (List Field) → List (Option ShapeWh
 output_causes (kind.Import file schema delim fixed reject) ins = fields_cause schema ∷ []
 output_causes (kind.Transform set reject) ins = sets_cause set ∷ (fields_cause (set_fields (first_fields ins) set) ∷ [])
 output_causes (kind.Modify keep drop rename) ins = fields_cause (modified_fields keep drop rename (first_fields ins)) ∷ []
+output_causes (kind.Group key hash results) ins = fields_cause (group_fields key results (first_fields ins)) ∷ []
+output_causes (kind.InnerJoin key) ins = fields_cause (join_fields false false key (first_fields ins) (second_fields ins)) ∷ []
+output_causes (kind.LeftOuterJoin key) ins = fields_cause (join_fields false true key (first_fields ins) (second_fields ins)) ∷ []
+output_causes (kind.RightOuterJoin key) ins = fields_cause (join_fields true false key (first_fields ins) (second_fields ins)) ∷ []
+output_causes (kind.FullOuterJoin key) ins = fields_cause (join_fields true true key (first_fields ins) (second_fields ins)) ∷ []
+output_causes (kind.Lookup key missing) ins = fields_cause (lookup_fields key missing (first_fields ins) (second_fields ins)) ∷ []
 output_causes k ins = []
 
 -- `record ( line: string[max=65536]; )`, of rejected lines
@@ -94,18 +120,34 @@ abbrev pub output_fields : OpKind → List (List Field) → ℕ → List Field
 output_fields (kind.Import file schema delim fixed reject) ins q = made_or_rejected schema line_fields q
 output_fields (kind.Transform set reject) ins q = made_or_rejected (set_fields (first_fields ins) set) (first_fields ins) q
 output_fields (kind.Modify keep drop rename) ins q = modified_fields keep drop rename (first_fields ins)
+output_fields (kind.Group key hash results) ins q = group_fields key results (first_fields ins)
+output_fields (kind.InnerJoin key) ins q = join_fields false false key (first_fields ins) (second_fields ins)
+output_fields (kind.LeftOuterJoin key) ins q = join_fields false true key (first_fields ins) (second_fields ins)
+output_fields (kind.RightOuterJoin key) ins q = join_fields true false key (first_fields ins) (second_fields ins)
+output_fields (kind.FullOuterJoin key) ins q = join_fields true true key (first_fields ins) (second_fields ins)
+output_fields (kind.Lookup key missing) ins q = made_or_rejected (lookup_fields key missing (first_fields ins) (second_fields ins)) (first_fields ins) q
 output_fields k ins q = first_fields ins
+
+abbrev pub both_keys : List (List ℕ × Bool) → List (List Field) → List (List Key)
+both_keys key ins = key_columns (first_fields ins) key ∷ (key_columns (second_fields ins) key ∷ [])
 
 -- the key lists of an operator, one for each input
 abbrev pub operator_keys : OpKind → List (List Field) → List (List Key)
 operator_keys (kind.Tsort key) ins = key_columns (first_fields ins) key ∷ []
 operator_keys (kind.Remdup key last) ins = key_columns (first_fields ins) key ∷ []
+operator_keys (kind.Group key hash results) ins = key_columns (first_fields ins) key ∷ []
+operator_keys (kind.InnerJoin key) ins = both_keys key ins
+operator_keys (kind.LeftOuterJoin key) ins = both_keys key ins
+operator_keys (kind.RightOuterJoin key) ins = both_keys key ins
+operator_keys (kind.FullOuterJoin key) ins = both_keys key ins
+operator_keys (kind.Lookup key missing) ins = both_keys key ins
 operator_keys k ins = []
 
--- the columns that a transform sets, and those that a modify keeps
+-- the columns that a transform sets, those that a modify keeps, and those of a group's results without its counts
 abbrev pub operator_columns : OpKind → List (List Field) → List ℕ
 operator_columns (kind.Transform set reject) ins = set_columns (first_fields ins) set
 operator_columns (kind.Modify keep drop rename) ins = kept_columns keep drop (first_fields ins)
+operator_columns (kind.Group key hash results) ins = source_columns results (first_fields ins)
 operator_columns k ins = []
 
 abbrev pub operator_parts : OpKind → List (List Field) → OpParts
@@ -115,6 +157,12 @@ operator_parts k ins = record { keys = operator_keys k ins; cols = operator_colu
 abbrev pub KeysDistinct : OpKind → Type 0
 KeysDistinct (kind.Tsort key) = NamesDiffer key
 KeysDistinct (kind.Remdup key last) = NamesDiffer key
+KeysDistinct (kind.Group key hash results) = NamesDiffer key
+KeysDistinct (kind.InnerJoin key) = NamesDiffer key
+KeysDistinct (kind.LeftOuterJoin key) = NamesDiffer key
+KeysDistinct (kind.RightOuterJoin key) = NamesDiffer key
+KeysDistinct (kind.FullOuterJoin key) = NamesDiffer key
+KeysDistinct (kind.Lookup key missing) = NamesDiffer key
 KeysDistinct k = Unit {0}
 
 -- fields that are set and names that are given are such as schemas have; there is a set; no case stands twice
@@ -122,4 +170,5 @@ abbrev pub OptionsStand : OpKind → Type 0
 OptionsStand (kind.Transform set reject) = (0 < length set) × AllByRecursion (λ (s : SetSpec). IsField s.field) set
 OptionsStand (kind.Modify keep drop rename) = AllByRecursion (λ (p : List ℕ × List ℕ). IsFieldName (p.0)) rename
 OptionsStand (kind.Switch on cases reject) = AreDistinct cases
+OptionsStand (kind.Group key hash results) = AllByRecursion (λ (a : AggSpec). IsFieldName (result_name a)) results
 OptionsStand k = Unit {0}

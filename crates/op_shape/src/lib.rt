@@ -4,6 +4,11 @@
 
 mod expressions;
 mod fault;
+mod grouping;
+mod inputs;
+mod joining;
+mod keying;
+mod looking;
 mod modifying;
 pub mod naming;
 mod options;
@@ -17,5 +22,7 @@ pub use options::own_cause;
 pub use outputs::{line_schema, output_schema};
 pub use parts::operator_parts;
 
+#[cfg(test)]
+mod keyed_tests;
 #[cfg(test)]
 mod tests;

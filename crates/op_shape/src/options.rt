@@ -1,14 +1,18 @@
 //! What is wrong at the options and the outputs of an operator.
 
-ghost use Rattle.std.specs.Prelude.{◌≡◌, ◌<◌, ◌^◌, ◌++◌, not, [], ◌∷◌, None, length, option_copied, IfOk};
+ghost use Rattle.std.specs.Prelude.{◌≡◌, ◌<◌, ◌^◌, ◌++◌, not, [], ◌∷◌, None, length, map, IfOk};
 ghost use Rattle.op_shape.specs.Causes.{first_cause};
 ghost use Rattle.op_shape.specs.Columns.{columns_cause, kept_fields, modified_fields, set_fields, sets_cause};
 ghost use Rattle.op_shape.specs.Exprs.{set_causes};
 ghost use Rattle.op_shape.specs.Widths.{fields_cause};
-ghost use Rattle.op_shape.specs.Options.{IsKnown, IsFed, fields_in, widths_suit, widths_cause, key_cause, renames_cause, option_causes, output_causes};
+ghost use Rattle.op_shape.specs.Options.{IsKeyed, IsKnown, IsFed, widths_suit, widths_cause, key_cause, renames_cause, option_causes, output_causes};
 
 use crate::ShapeWhy;
 use crate::expressions::{on_cause, set_causes, test_cause};
+use crate::grouping::group_cause;
+use crate::inputs::{first, second};
+use crate::joining::{FULL_OUTER, INNER, LEFT_OUTER, RIGHT_OUTER, join_cause};
+use crate::looking::lookup_cause;
 use crate::modifying::{columns_cause, modified_fields, renames_cause};
 use crate::naming::has_keys;
 use crate::setting::{set_fields, sets_cause};
@@ -96,53 +100,62 @@ fn modify_cause(
     Ok(fields_cause(made.as_slice()))
 }
 
-fn fed_cause(alloc: Global, kind: &OpKind, first: &Schema) -> Result<Option<ShapeWhy>, NoMemory>
-    requires { IsKnown kind.now }
-    ensures { IfOk result (λ cause. cause ≡ first_cause (option_causes kind.now (first.now ∷ []) ++ output_causes kind.now (first.now ∷ []))) }
+/// What is wrong at an operator's options and outputs, where its inputs have these schemas.
+pub fn own_cause(
+    alloc: Global,
+    kind: &OpKind,
+    ins: &[&Schema],
+) -> Result<Option<ShapeWhy>, NoMemory>
+    requires known { IsKnown kind.now }
+    requires fed { IsFed kind.now (length ins.now) }
+    ensures { IfOk result (λ cause. cause ≡ first_cause (option_causes kind.now (map (λ s. s.now) ins.now) ++ output_causes kind.now (map (λ s. s.now) ins.now))) }
 {
     match kind {
         OpKind::Import { schema, fixed, .. } => Ok(import_cause(fixed, schema.as_slice())),
-        OpKind::Export { fixed, .. } => Ok(widths_cause(fixed, first.as_slice())),
-        OpKind::Filter { test, .. } => test_cause(alloc, first, test.as_slice()),
-        OpKind::Transform { set, .. } => transform_cause(alloc, first, set.as_slice()),
+        OpKind::Export { fixed, .. } => Ok(widths_cause(fixed, first(ins).as_slice())),
+        OpKind::Copy => Ok(None),
+        OpKind::Filter { test, .. } => test_cause(alloc, first(ins), test.as_slice()),
+        OpKind::Transform { set, .. } => transform_cause(alloc, first(ins), set.as_slice()),
         OpKind::Modify { keep, drop, rename } => modify_cause(
             alloc,
             keep.as_slice(),
             drop.as_slice(),
             rename.as_slice(),
-            first,
+            first(ins),
         ),
-        OpKind::Switch { on, .. } => on_cause(alloc, first, on.as_slice()),
+        OpKind::Switch { on, .. } => on_cause(alloc, first(ins), on.as_slice()),
         OpKind::Tsort { key } | OpKind::Remdup { key, .. } => {
-            Ok(key_cause(key.as_slice(), first.as_slice()))
+            Ok(key_cause(key.as_slice(), first(ins).as_slice()))
         }
-        _ => Ok(None),
+        _ => keyed_cause(alloc, kind, ins),
     }
 }
 
-/// Of an operator without an input.
-fn source_cause(kind: &OpKind) -> Option<ShapeWhy>
-    requires { IsFed kind.now None }
-    ensures { result ≡ first_cause (option_causes kind.now ([] ∷ []) ++ output_causes kind.now ([] ∷ [])) }
+/// Of an operator by keys.
+fn keyed_cause(alloc: Global, kind: &OpKind, ins: &[&Schema]) -> Result<Option<ShapeWhy>, NoMemory>
+    requires keyed { IsKeyed kind.now }
+    requires fed { IsFed kind.now (length ins.now) }
+    ensures { IfOk result (λ cause. cause ≡ first_cause (option_causes kind.now (map (λ s. s.now) ins.now) ++ output_causes kind.now (map (λ s. s.now) ins.now))) }
 {
     match kind {
-        OpKind::Import { schema, fixed, .. } => import_cause(fixed, schema.as_slice()),
+        OpKind::Group { key, results, .. } => {
+            group_cause(alloc, key.as_slice(), results.as_slice(), first(ins))
+        }
+        OpKind::InnerJoin { key } => {
+            join_cause(alloc, key.as_slice(), INNER, first(ins), second(ins))
+        }
+        OpKind::LeftOuterJoin { key } => {
+            join_cause(alloc, key.as_slice(), LEFT_OUTER, first(ins), second(ins))
+        }
+        OpKind::RightOuterJoin { key } => {
+            join_cause(alloc, key.as_slice(), RIGHT_OUTER, first(ins), second(ins))
+        }
+        OpKind::FullOuterJoin { key } => {
+            join_cause(alloc, key.as_slice(), FULL_OUTER, first(ins), second(ins))
+        }
+        OpKind::Lookup { key, missing } => {
+            lookup_cause(alloc, key.as_slice(), *missing, first(ins), second(ins))
+        }
         _ => unreachable!(),
-    }
-}
-
-/// What is wrong at an operator's options and outputs, where input 0 has this schema.
-pub fn own_cause(
-    alloc: Global,
-    kind: &OpKind,
-    first: Option<&Schema>,
-) -> Result<Option<ShapeWhy>, NoMemory>
-    requires known { IsKnown kind.now }
-    requires fed { IsFed kind.now (option_copied first) }
-    ensures { IfOk result (λ cause. cause ≡ first_cause (option_causes kind.now (fields_in (option_copied first.entry) ∷ []) ++ output_causes kind.now (fields_in (option_copied first.entry) ∷ []))) }
-{
-    match first {
-        Some(schema) => fed_cause(alloc, kind, schema),
-        None => Ok(source_cause(kind)),
     }
 }

@@ -1,6 +1,6 @@
 //! The schemas of an operator's outputs.
 
-ghost use Rattle.std.specs.Prelude.{◌≡◌, ◌++◌, ℕ, List, [], ◌∷◌, true, None, codes, option_copied, IfOk};
+ghost use Rattle.std.specs.Prelude.{◌≡◌, ◌++◌, ℕ, List, [], ◌∷◌, true, None, codes, map, length, IfOk};
 ghost use Rattle.std.specs.List.{AllByRecursion};
 ghost use Rattle.ds_schema.specs.Schemas.{IsField, IsFieldName};
 ghost use Rattle.flow_graph.specs.declared.op_kind.SetSpec.{SetSpec as SetOf};
@@ -8,8 +8,12 @@ ghost use Rattle.op_shape.specs.Causes.{first_cause};
 ghost use Rattle.op_shape.specs.Columns.{modified_fields, set_fields};
 ghost use Rattle.op_shape.specs.Naming.{has_columns};
 ghost use Rattle.op_shape.specs.Widths.{fields_cause};
-ghost use Rattle.op_shape.specs.Options.{IsKnown, IsFed, OptionsStand, fields_in, line_fields, made_or_rejected, option_causes, output_causes, output_fields};
+ghost use Rattle.op_shape.specs.Options.{IsKeyed, IsKnown, IsFed, OptionsStand, line_fields, made_or_rejected, option_causes, output_causes, output_fields};
 
+use crate::grouping::group_schema;
+use crate::inputs::{first, second};
+use crate::joining::{FULL_OUTER, INNER, LEFT_OUTER, RIGHT_OUTER, join_schema};
+use crate::looking::lookup_schema;
 use crate::modifying::modified_fields;
 use crate::setting::set_fields;
 use ds_schema::{Field, Schema};
@@ -96,51 +100,73 @@ fn modify_schema(
     Ok(Schema::from_vec(fields))
 }
 
-fn fed_output(alloc: Global, kind: &OpKind, first: &Schema, out: u32) -> Result<Schema, NoMemory>
-    requires sound { first_cause (option_causes kind.now (first.now ∷ []) ++ output_causes kind.now (first.now ∷ [])) ≡ None }
+/// The schema of an output, where the inputs have these schemas and nothing is wrong.
+pub fn output_schema(
+    alloc: Global,
+    kind: &OpKind,
+    ins: &[&Schema],
+    out: u32,
+) -> Result<Schema, NoMemory>
+    requires known { IsKnown kind.now }
+    requires fed { IsFed kind.now (length ins.now) }
+    requires sound { first_cause (option_causes kind.now (map (λ s. s.now) ins.now) ++ output_causes kind.now (map (λ s. s.now) ins.now)) ≡ None }
     requires stand { OptionsStand kind.now }
-    ensures { IfOk result (λ schema. schema ≡ output_fields kind.now (first.now ∷ []) out) }
+    ensures { IfOk result (λ schema. schema ≡ output_fields kind.now (map (λ s. s.now) ins.now) out) }
 {
     match kind {
         OpKind::Import { schema, .. } => import_schema(alloc, schema, out),
-        OpKind::Transform { set, .. } => transform_schema(alloc, first, set.as_slice(), out),
+        OpKind::Transform { set, .. } => transform_schema(alloc, first(ins), set.as_slice(), out),
         OpKind::Modify { keep, drop, rename } => modify_schema(
             alloc,
             keep.as_slice(),
             drop.as_slice(),
             rename.as_slice(),
-            first,
+            first(ins),
         ),
-        _ => first.copied(),
+        OpKind::Export { .. }
+        | OpKind::Copy
+        | OpKind::Filter { .. }
+        | OpKind::Switch { .. }
+        | OpKind::Tsort { .. }
+        | OpKind::Remdup { .. } => first(ins).copied(),
+        _ => keyed_schema(alloc, kind, ins, out),
     }
 }
 
-/// Of an operator without an input.
-fn source_output(alloc: Global, kind: &OpKind, out: u32) -> Result<Schema, NoMemory>
-    requires { IsFed kind.now None }
-    ensures { IfOk result (λ schema. schema ≡ output_fields kind.now ([] ∷ []) out) }
+/// Of an operator by keys.
+fn keyed_schema(alloc: Global, kind: &OpKind, ins: &[&Schema], out: u32) -> Result<Schema, NoMemory>
+    requires keyed { IsKeyed kind.now }
+    requires fed { IsFed kind.now (length ins.now) }
+    requires sound { first_cause (option_causes kind.now (map (λ s. s.now) ins.now) ++ output_causes kind.now (map (λ s. s.now) ins.now)) ≡ None }
+    requires stand { OptionsStand kind.now }
+    ensures { IfOk result (λ schema. schema ≡ output_fields kind.now (map (λ s. s.now) ins.now) out) }
 {
     match kind {
-        OpKind::Import { schema, .. } => import_schema(alloc, schema, out),
+        OpKind::Group { key, results, .. } => {
+            group_schema(alloc, key.as_slice(), results.as_slice(), first(ins))
+        }
+        OpKind::InnerJoin { key } => {
+            join_schema(alloc, key.as_slice(), INNER, first(ins), second(ins))
+        }
+        OpKind::LeftOuterJoin { key } => {
+            join_schema(alloc, key.as_slice(), LEFT_OUTER, first(ins), second(ins))
+        }
+        OpKind::RightOuterJoin { key } => {
+            join_schema(alloc, key.as_slice(), RIGHT_OUTER, first(ins), second(ins))
+        }
+        OpKind::FullOuterJoin { key } => {
+            join_schema(alloc, key.as_slice(), FULL_OUTER, first(ins), second(ins))
+        }
+        OpKind::Lookup { key, missing } => {
+            lookup_schema(
+                alloc,
+                key.as_slice(),
+                *missing,
+                first(ins),
+                second(ins),
+                out,
+            )
+        }
         _ => unreachable!(),
-    }
-}
-
-/// The schema of an output, where input 0 has this schema and nothing is wrong.
-pub fn output_schema(
-    alloc: Global,
-    kind: &OpKind,
-    first: Option<&Schema>,
-    out: u32,
-) -> Result<Schema, NoMemory>
-    requires known { IsKnown kind.now }
-    requires fed { IsFed kind.now (option_copied first) }
-    requires sound { first_cause (option_causes kind.now (fields_in (option_copied first) ∷ []) ++ output_causes kind.now (fields_in (option_copied first) ∷ [])) ≡ None }
-    requires stand { OptionsStand kind.now }
-    ensures { IfOk result (λ schema. schema ≡ output_fields kind.now (fields_in (option_copied first.entry) ∷ []) out) }
-{
-    match first {
-        Some(schema) => fed_output(alloc, kind, schema, out),
-        None => source_output(alloc, kind, out),
     }
 }

@@ -1,12 +1,15 @@
 //! What the names and the expressions of an operator's options stand for.
 
-ghost use Rattle.std.specs.Prelude.{◌≡◌, ◌<◌, ◌^◌, ◌++◌, [], ◌∷◌, true, None, length, option_copied, IfOk};
+ghost use Rattle.std.specs.Prelude.{◌≡◌, ◌<◌, ◌^◌, ◌++◌, [], ◌∷◌, true, None, length, map, IfOk};
 ghost use Rattle.op_shape.specs.Causes.{first_cause};
 ghost use Rattle.op_shape.specs.Exprs.{exprs_of};
+ghost use Rattle.op_shape.specs.Keyed.{both_cause};
 ghost use Rattle.op_shape.specs.Naming.{has_keys, key_columns, NamesDiffer};
-ghost use Rattle.op_shape.specs.Options.{IsKnown, IsFed, KeysDistinct, fields_in, key_cause, option_causes, output_causes, operator_keys, operator_columns, operator_parts};
+ghost use Rattle.op_shape.specs.Options.{IsKnown, IsFed, KeysDistinct, first_fields, key_cause, option_causes, output_causes, operator_keys, operator_columns, operator_parts};
 
 use crate::expressions::{one_expr, set_exprs};
+use crate::grouping::source_columns;
+use crate::inputs::{first, second};
 use crate::modifying::kept_columns;
 use crate::naming::key_list;
 use crate::setting::set_columns;
@@ -31,93 +34,100 @@ fn one_key(
     Ok(keys)
 }
 
+fn both_keys(
+    alloc: Global,
+    left: &[Field],
+    right: &[Field],
+    key: &[(Name, bool)],
+) -> Result<Items<KeyList>, NoMemory>
+    requires few_left { length left.now < 2 ^ 32 }
+    requires few_right { length right.now < 2 ^ 32 }
+    requires named { both_cause key.now left.now right.now ≡ None }
+    requires differ { NamesDiffer key.now }
+    ensures { IfOk result (λ keys. keys ≡ key_columns left.now key.now ∷ (key_columns right.now key.now ∷ [])) }
+{
+    let mut keys = Items::new(alloc);
+    keys.push(key_list(alloc, left, key)?)?;
+    keys.push(key_list(alloc, right, key)?)?;
+    Ok(keys)
+}
+
 /// The key lists of an operator, one for each input.
-fn operator_keys(alloc: Global, kind: &OpKind, first: &Schema) -> Result<Items<KeyList>, NoMemory>
+fn operator_keys(alloc: Global, kind: &OpKind, ins: &[&Schema]) -> Result<Items<KeyList>, NoMemory>
     requires known { IsKnown kind.now }
-    requires sound { first_cause (option_causes kind.now (first.now ∷ []) ++ output_causes kind.now (first.now ∷ [])) ≡ None }
+    requires fed { IsFed kind.now (length ins.now) }
+    requires sound { first_cause (option_causes kind.now (map (λ s. s.now) ins.now) ++ output_causes kind.now (map (λ s. s.now) ins.now)) ≡ None }
     requires differ { KeysDistinct kind.now }
-    ensures { IfOk result (λ keys. keys ≡ operator_keys kind.now (first.now ∷ [])) }
+    ensures { IfOk result (λ keys. keys ≡ operator_keys kind.now (map (λ s. s.now) ins.now)) }
 {
     match kind {
-        OpKind::Tsort { key } | OpKind::Remdup { key, .. } => {
-            one_key(alloc, first.as_slice(), key.as_slice())
+        OpKind::Tsort { key } | OpKind::Remdup { key, .. } | OpKind::Group { key, .. } => {
+            one_key(alloc, first(ins).as_slice(), key.as_slice())
         }
+        OpKind::InnerJoin { key }
+        | OpKind::LeftOuterJoin { key }
+        | OpKind::RightOuterJoin { key }
+        | OpKind::FullOuterJoin { key }
+        | OpKind::Lookup { key, .. } => both_keys(
+            alloc,
+            first(ins).as_slice(),
+            second(ins).as_slice(),
+            key.as_slice(),
+        ),
         _ => Ok(Items::new(alloc)),
     }
 }
 
-/// The columns that a transform sets, and those that a modify keeps.
-fn operator_columns(alloc: Global, kind: &OpKind, first: &Schema) -> Result<Items<u32>, NoMemory>
+/// The columns that a transform sets, those that a modify keeps, and those of a group's results
+/// without its counts.
+fn operator_columns(alloc: Global, kind: &OpKind, ins: &[&Schema]) -> Result<Items<u32>, NoMemory>
     requires known { IsKnown kind.now }
-    requires sound { first_cause (option_causes kind.now (first.now ∷ []) ++ output_causes kind.now (first.now ∷ [])) ≡ None }
-    ensures { IfOk result (λ cols. cols ≡ operator_columns kind.now (first.now ∷ [])) }
+    requires fed { IsFed kind.now (length ins.now) }
+    requires sound { first_cause (option_causes kind.now (map (λ s. s.now) ins.now) ++ output_causes kind.now (map (λ s. s.now) ins.now)) ≡ None }
+    ensures { IfOk result (λ cols. cols ≡ operator_columns kind.now (map (λ s. s.now) ins.now)) }
 {
     match kind {
-        OpKind::Transform { set, .. } => set_columns(alloc, first.as_slice(), set.as_slice()),
-        OpKind::Modify { keep, drop, .. } => {
-            kept_columns(alloc, keep.as_slice(), drop.as_slice(), first.as_slice())
+        OpKind::Transform { set, .. } => set_columns(alloc, first(ins).as_slice(), set.as_slice()),
+        OpKind::Modify { keep, drop, .. } => kept_columns(
+            alloc,
+            keep.as_slice(),
+            drop.as_slice(),
+            first(ins).as_slice(),
+        ),
+        OpKind::Group { results, .. } => {
+            source_columns(alloc, results.as_slice(), first(ins).as_slice())
         }
         _ => Ok(Items::new(alloc)),
     }
 }
 
 /// The expressions of an operator, in the written order.
-fn operator_exprs(alloc: Global, kind: &OpKind, first: &Schema) -> Result<Items<Typed>, NoMemory>
+fn operator_exprs(alloc: Global, kind: &OpKind, ins: &[&Schema]) -> Result<Items<Typed>, NoMemory>
     requires known { IsKnown kind.now }
-    requires sound { first_cause (option_causes kind.now (first.now ∷ []) ++ output_causes kind.now (first.now ∷ [])) ≡ None }
-    ensures { IfOk result (λ exprs. exprs ≡ exprs_of kind.now first.now) }
+    requires fed { IsFed kind.now (length ins.now) }
+    requires sound { first_cause (option_causes kind.now (map (λ s. s.now) ins.now) ++ output_causes kind.now (map (λ s. s.now) ins.now)) ≡ None }
+    ensures { IfOk result (λ exprs. exprs ≡ exprs_of kind.now (first_fields (map (λ s. s.now) ins.now))) }
 {
     match kind {
-        OpKind::Filter { test, .. } => one_expr(alloc, first, test.as_slice()),
-        OpKind::Transform { set, .. } => set_exprs(alloc, first, set.as_slice()),
-        OpKind::Switch { on, .. } => one_expr(alloc, first, on.as_slice()),
+        OpKind::Filter { test, .. } => one_expr(alloc, first(ins), test.as_slice()),
+        OpKind::Transform { set, .. } => set_exprs(alloc, first(ins), set.as_slice()),
+        OpKind::Switch { on, .. } => one_expr(alloc, first(ins), on.as_slice()),
         _ => Ok(Items::new(alloc)),
     }
 }
 
-fn fed_parts(alloc: Global, kind: &OpKind, first: &Schema) -> Result<OpParts, NoMemory>
+/// What the names and the expressions of an operator's options stand for, where its inputs have
+/// these schemas.
+pub fn operator_parts(alloc: Global, kind: &OpKind, ins: &[&Schema]) -> Result<OpParts, NoMemory>
     requires known { IsKnown kind.now }
-    requires sound { first_cause (option_causes kind.now (first.now ∷ []) ++ output_causes kind.now (first.now ∷ [])) ≡ None }
+    requires fed { IsFed kind.now (length ins.now) }
+    requires sound { first_cause (option_causes kind.now (map (λ s. s.now) ins.now) ++ output_causes kind.now (map (λ s. s.now) ins.now)) ≡ None }
     requires differ { KeysDistinct kind.now }
-    ensures { IfOk result (λ parts. parts ≡ operator_parts kind.now (first.now ∷ [])) }
+    ensures { IfOk result (λ parts. parts ≡ operator_parts kind.now (map (λ s. s.now) ins.now)) }
 {
     Ok(OpParts {
-        keys: operator_keys(alloc, kind, first)?,
-        cols: operator_columns(alloc, kind, first)?,
-        exprs: operator_exprs(alloc, kind, first)?,
+        keys: operator_keys(alloc, kind, ins)?,
+        cols: operator_columns(alloc, kind, ins)?,
+        exprs: operator_exprs(alloc, kind, ins)?,
     })
-}
-
-/// Of an operator without an input.
-fn source_parts(alloc: Global, kind: &OpKind) -> OpParts
-    requires { IsFed kind.now None }
-    ensures { result ≡ operator_parts kind.now ([] ∷ []) }
-{
-    match kind {
-        OpKind::Import { .. } => OpParts {
-            keys: Items::new(alloc),
-            cols: Items::new(alloc),
-            exprs: Items::new(alloc),
-        },
-        _ => unreachable!(),
-    }
-}
-
-/// What the names and the expressions of an operator's options stand for, where input 0 has
-/// this schema.
-pub fn operator_parts(
-    alloc: Global,
-    kind: &OpKind,
-    first: Option<&Schema>,
-) -> Result<OpParts, NoMemory>
-    requires known { IsKnown kind.now }
-    requires fed { IsFed kind.now (option_copied first) }
-    requires sound { first_cause (option_causes kind.now (fields_in (option_copied first) ∷ []) ++ output_causes kind.now (fields_in (option_copied first) ∷ [])) ≡ None }
-    requires differ { KeysDistinct kind.now }
-    ensures { IfOk result (λ parts. parts ≡ operator_parts kind.now (fields_in (option_copied first.entry) ∷ [])) }
-{
-    match first {
-        Some(schema) => fed_parts(alloc, kind, schema),
-        None => Ok(source_parts(alloc, kind)),
-    }
 }

@@ -24,7 +24,6 @@ const NAME: &str = "record ( name: nullable string[4]; )";
 
 #[derive(Clone, Copy)]
 enum Op {
-    Import,
     Export,
     Narrow,
     Copy,
@@ -84,7 +83,7 @@ fn set(alloc: Global, text: &str, expr: &str) -> Result<SetSpec, Fail>
 }
 
 fn transform(alloc: Global, options: [&str; 4]) -> Result<OpKind, Fail>
-    ensures { IfOk result (λ k. IsKnown k × (KeysDistinct k × OptionsStand k)) }
+    ensures { IfOk result (λ k. IsKnown k × (IsFed k 1 × (KeysDistinct k × OptionsStand k))) }
 {
     let [first, expr, second, other] = options;
     let mut sets = Items::new(alloc);
@@ -99,7 +98,7 @@ fn transform(alloc: Global, options: [&str; 4]) -> Result<OpKind, Fail>
 }
 
 fn keep(alloc: Global, options: [&str; 4]) -> Result<OpKind, Fail>
-    ensures { IfOk result (λ k. IsKnown k × (KeysDistinct k × OptionsStand k)) }
+    ensures { IfOk result (λ k. IsKnown k × (IsFed k 1 × (KeysDistinct k × OptionsStand k))) }
 {
     let [kept, new, old, _] = options;
     let mut pairs = Items::new(alloc);
@@ -115,7 +114,7 @@ fn keep(alloc: Global, options: [&str; 4]) -> Result<OpKind, Fail>
 }
 
 fn dropped(alloc: Global, drop: &str) -> Result<OpKind, Fail>
-    ensures { IfOk result (λ k. IsKnown k × (KeysDistinct k × OptionsStand k)) }
+    ensures { IfOk result (λ k. IsKnown k × (IsFed k 1 × (KeysDistinct k × OptionsStand k))) }
 {
     Ok(OpKind::Modify {
         keep: Items::new(alloc),
@@ -142,7 +141,7 @@ fn one_key(alloc: Global, column: &str) -> Result<Items<(Name, bool)>, Fail>
 }
 
 fn one_case(alloc: Global, on: &str) -> Result<OpKind, Fail>
-    ensures { IfOk result (λ k. IsKnown k × (KeysDistinct k × OptionsStand k)) }
+    ensures { IfOk result (λ k. IsKnown k × (IsFed k 1 × (KeysDistinct k × OptionsStand k))) }
 {
     let mut cases = Items::new(alloc);
     cases.push(1)?;
@@ -154,8 +153,7 @@ fn one_case(alloc: Global, on: &str) -> Result<OpKind, Fail>
 }
 
 fn import(alloc: Global) -> Result<OpKind, Fail>
-    ensures known { IfOk result (λ k. IsKnown k × (KeysDistinct k × OptionsStand k)) }
-    ensures fed { IfOk result (λ k. IsFed k None) }
+    ensures { IfOk result (λ k. IsKnown k × IsFed k 0) }
 {
     Ok(OpKind::Import {
         file: name(alloc, "in.txt")?,
@@ -167,7 +165,7 @@ fn import(alloc: Global) -> Result<OpKind, Fail>
 }
 
 fn export(alloc: Global, fixed: bool) -> Result<OpKind, Fail>
-    ensures { IfOk result (λ k. IsKnown k × (KeysDistinct k × OptionsStand k)) }
+    ensures { IfOk result (λ k. IsKnown k × (IsFed k 1 × (KeysDistinct k × OptionsStand k))) }
 {
     Ok(OpKind::Export {
         file: name(alloc, "out.txt")?,
@@ -177,7 +175,7 @@ fn export(alloc: Global, fixed: bool) -> Result<OpKind, Fail>
 }
 
 fn filter(alloc: Global, test: &str) -> Result<OpKind, Fail>
-    ensures { IfOk result (λ k. IsKnown k × (KeysDistinct k × OptionsStand k)) }
+    ensures { IfOk result (λ k. IsKnown k × (IsFed k 1 × (KeysDistinct k × OptionsStand k))) }
 {
     Ok(OpKind::Filter {
         test: bytes(alloc, test)?,
@@ -186,7 +184,7 @@ fn filter(alloc: Global, test: &str) -> Result<OpKind, Fail>
 }
 
 fn tsort(alloc: Global, column: &str) -> Result<OpKind, Fail>
-    ensures { IfOk result (λ k. IsKnown k × (KeysDistinct k × OptionsStand k)) }
+    ensures { IfOk result (λ k. IsKnown k × (IsFed k 1 × (KeysDistinct k × OptionsStand k))) }
 {
     Ok(OpKind::Tsort {
         key: one_key(alloc, column)?,
@@ -194,11 +192,10 @@ fn tsort(alloc: Global, column: &str) -> Result<OpKind, Fail>
 }
 
 fn kind(alloc: Global, written: Written<'_>) -> Result<OpKind, Fail>
-    ensures { IfOk result (λ k. IsKnown k × (KeysDistinct k × OptionsStand k)) }
+    ensures { IfOk result (λ k. IsKnown k × (IsFed k 1 × (KeysDistinct k × OptionsStand k))) }
 {
     let (op, options) = written;
     match op {
-        Op::Import => import(alloc),
         Op::Export => export(alloc, false),
         Op::Narrow => export(alloc, true),
         Op::Copy => Ok(OpKind::Copy),
@@ -220,7 +217,7 @@ fn cause(
     people: &Schema,
 ) -> Result<Option<ShapeWhy>, Fail> {
     let kind = kind(alloc, (op, options))?;
-    Ok(own_cause(alloc, &kind, Some(people))?)
+    Ok(own_cause(alloc, &kind, &[people])?)
 }
 
 #[test]
@@ -284,7 +281,7 @@ fn causes_at_columns(rt: HostRuntime) -> Result<(), Fail> {
 fn cause_without_input(rt: HostRuntime) -> Result<(), Fail> {
     let alloc = rt.alloc();
     let import = import(alloc)?;
-    let found = own_cause(alloc, &import, None)?;
+    let found = own_cause(alloc, &import, &[])?;
     assert_eq!(rt; found, None);
     Ok(())
 }
@@ -292,9 +289,9 @@ fn cause_without_input(rt: HostRuntime) -> Result<(), Fail> {
 /// What stands for the names and expressions of an operator, where nothing is wrong with it.
 fn parts(alloc: Global, op: Op, options: [&str; 4], people: &Schema) -> Result<OpParts, Fail> {
     let kind = kind(alloc, (op, options))?;
-    match own_cause(alloc, &kind, Some(people))? {
+    match own_cause(alloc, &kind, &[people])? {
         Some(_) => Err("a cause".into()),
-        None => Ok(operator_parts(alloc, &kind, Some(people))?),
+        None => Ok(operator_parts(alloc, &kind, &[people])?),
     }
 }
 
@@ -325,9 +322,9 @@ fn output(
     out: u32,
 ) -> Result<Schema, Fail> {
     let kind = kind(alloc, (op, options))?;
-    match own_cause(alloc, &kind, Some(people))? {
+    match own_cause(alloc, &kind, &[people])? {
         Some(_) => Err("a cause".into()),
-        None => Ok(output_schema(alloc, &kind, Some(people), out)?),
+        None => Ok(output_schema(alloc, &kind, &[people], out)?),
     }
 }
 

@@ -1,6 +1,6 @@
 -- Flows that are built are of known operators, and each link is routed.
-use Rattle.std.proofs.Common.{◌≡◌, ◌<◌, ◌∙◌, ◌&&◌, ◌||◌, not, ℕ, Bool, true, false, List, [], ◌∷◌, length, get_or, map, ap, sym, subst, refl, arith, Option, Some, None}
-use Rattle.std.specs.List.{list_all, AllByRecursion, range_with_len}
+use Rattle.std.proofs.Common.{◌≡◌, ◌∙◌, ◌&&◌, ◌||◌, not, ℕ, zero, suc, Bool, true, false, List, [], ◌∷◌, length, get_or, ap, sym, subst, refl, arith, Option, Some, None}
+use Rattle.std.specs.List.{list_all, AllByRecursion}
 use Rattle.std.specs.Option.{is_some}
 use Rattle.std.proofs.lemmas.List.FromFn.{get_or-map-range_with_len}
 use Rattle.ds_schema.specs.declared.schema.Field.{Field}
@@ -18,11 +18,11 @@ use Rattle.flow_graph.specs.declared.parts.Stored.{Stored}
 use Rattle.flow_graph.specs.declared.route.Route.{Route}
 use Rattle.flow_graph.specs.Charts.{Chart, no_link, no_op, no_parts, link_at, op_at, into_seq, is_seq, keys_at, cols_at, first_width, form_at, kind_form}
 use Rattle.flow_graph.specs.FlowShape.{IsShape}
-use Rattle.flow_graph.specs.Forms.{sort_key}
-use Rattle.flow_rules.specs.Verdicts.{IsRouted, unsorted, routed_at}
+use Rattle.flow_graph.specs.Forms.{join, sort_key}
+use Rattle.flow_rules.specs.Verdicts.{IsRouted, unsorted}
 use Rattle.flow_shape.proofs.Causing.{all_at}
 use Rattle.flow_shape.specs.Methods.{written_route}
-use Rattle.op_shape.specs.Options.{IsKnown, operator_keys}
+use Rattle.op_shape.specs.Options.{IsKnown, both_keys, operator_keys}
 use Rattle.flow_shape.specs.Refusals.{HasOnlyKnown, IsShapeOf, written_at, parts_at, inputs_at, fields_at}
 use Rattle.osh_ends.specs.Built.{is_built, is_built_op, is_built_link, is_built_method, needs_sort}
 
@@ -46,13 +46,13 @@ known (kind.Tsort key) h = tt
 known (kind.Remdup key last) h = tt
 known (kind.Dsread ds) h = absurd (grind (arith, h))
 known (kind.Dswrite ds) h = absurd (grind (arith, h))
-known (kind.Group key hash results) h = absurd (grind (arith, h))
-known (kind.InnerJoin key) h = absurd (grind (arith, h))
-known (kind.LeftOuterJoin key) h = absurd (grind (arith, h))
-known (kind.RightOuterJoin key) h = absurd (grind (arith, h))
-known (kind.FullOuterJoin key) h = absurd (grind (arith, h))
+known (kind.Group key hash results) h = tt
+known (kind.InnerJoin key) h = tt
+known (kind.LeftOuterJoin key) h = tt
+known (kind.RightOuterJoin key) h = tt
+known (kind.FullOuterJoin key) h = tt
 known (kind.Merge key keepbad reject) h = absurd (grind (arith, h))
-known (kind.Lookup key missing) h = absurd (grind (arith, h))
+known (kind.Lookup key missing) h = tt
 known (kind.Changecapture key values keepcopy) h = absurd (grind (arith, h))
 known (kind.Funnel sequence sort) h = absurd (grind (arith, h))
 
@@ -70,6 +70,11 @@ built_parts flow h =
 pub only_known : (flow : Flow) → is_built flow ≡ true → HasOnlyKnown flow
 only_known flow h = all_known flow.ops (built_parts flow h).0
 
+-- a join by no key is sorted on both inputs as it comes
+both_unsorted : (keys : List (List Key)) (ins : List (List Field)) (port : ℕ) → keys ≡ both_keys [] ins → unsorted (sort_key (join (get_keys keys 0) (get_keys keys 1)) port) ≡ true
+both_unsorted keys ins zero e = ap (λ ks. unsorted (Some (get_keys ks 0))) e
+both_unsorted keys ins (suc port) e = ap (λ ks. unsorted (Some (get_keys ks 1))) e
+
 -- an operator that needs no sort
 no_sort : (k : OpKind) (ins : List (List Field)) (keys : List (List Key)) (cols : List ℕ) (stored : Option Stored) (width port : ℕ) → is_built_op k ≡ true → needs_sort k ≡ false → keys ≡ operator_keys k ins → unsorted (sort_key (kind_form k keys cols stored width) port) ≡ true
 no_sort (kind.Import file schema delim fixed reject) ins keys cols stored width port h n e = refl
@@ -84,13 +89,19 @@ no_sort (kind.Remdup [] last) ins keys cols stored width port h n e = ap (λ ks.
 no_sort (kind.Remdup (k ∷ key) last) ins keys cols stored width port h n e = absurd (grind (arith, n))
 no_sort (kind.Dsread ds) ins keys cols stored width port h n e = absurd (grind (arith, h))
 no_sort (kind.Dswrite ds) ins keys cols stored width port h n e = absurd (grind (arith, h))
-no_sort (kind.Group key hash results) ins keys cols stored width port h n e = absurd (grind (arith, h))
-no_sort (kind.InnerJoin key) ins keys cols stored width port h n e = absurd (grind (arith, h))
-no_sort (kind.LeftOuterJoin key) ins keys cols stored width port h n e = absurd (grind (arith, h))
-no_sort (kind.RightOuterJoin key) ins keys cols stored width port h n e = absurd (grind (arith, h))
-no_sort (kind.FullOuterJoin key) ins keys cols stored width port h n e = absurd (grind (arith, h))
+no_sort (kind.Group key true results) ins keys cols stored width port h n e = refl
+no_sort (kind.Group [] false results) ins keys cols stored width port h n e = ap (λ ks. unsorted (Some (get_keys ks 0))) e
+no_sort (kind.Group (k ∷ key) false results) ins keys cols stored width port h n e = absurd (grind (arith, n))
+no_sort (kind.InnerJoin []) ins keys cols stored width port h n e = both_unsorted keys ins port e
+no_sort (kind.InnerJoin (k ∷ key)) ins keys cols stored width port h n e = absurd (grind (arith, n))
+no_sort (kind.LeftOuterJoin []) ins keys cols stored width port h n e = both_unsorted keys ins port e
+no_sort (kind.LeftOuterJoin (k ∷ key)) ins keys cols stored width port h n e = absurd (grind (arith, n))
+no_sort (kind.RightOuterJoin []) ins keys cols stored width port h n e = both_unsorted keys ins port e
+no_sort (kind.RightOuterJoin (k ∷ key)) ins keys cols stored width port h n e = absurd (grind (arith, n))
+no_sort (kind.FullOuterJoin []) ins keys cols stored width port h n e = both_unsorted keys ins port e
+no_sort (kind.FullOuterJoin (k ∷ key)) ins keys cols stored width port h n e = absurd (grind (arith, n))
 no_sort (kind.Merge key keepbad reject) ins keys cols stored width port h n e = absurd (grind (arith, h))
-no_sort (kind.Lookup key missing) ins keys cols stored width port h n e = absurd (grind (arith, h))
+no_sort (kind.Lookup key missing) ins keys cols stored width port h n e = refl
 no_sort (kind.Changecapture key values keepcopy) ins keys cols stored width port h n e = absurd (grind (arith, h))
 no_sort (kind.Funnel sequence sort) ins keys cols stored width port h n e = absurd (grind (arith, h))
 

@@ -1,6 +1,6 @@
 -- The number of nodes in the default pool of a configuration.
-use Rattle.std.proofs.Common.{◌≡◌, ◌<◌, ◌≤◌, ◌∙◌, ◌-◌, ◌^◌, ◌+◌, ◌||◌, if◌then◌else◌, min, ℕ, Bool, true, false, List, [], ◌∷◌, length, filter, sym, ap, subst, refl, arith}
-use Rattle.std.specs.List.{count_by, list_any}
+use Rattle.std.proofs.Common.{◌≡◌, ◌<◌, ◌∙◌, ◌-◌, ◌^◌, ◌||◌, if◌then◌else◌, min, ℕ, Bool, true, false, List, [], ◌∷◌, length, filter, sym, ap, subst, refl, arith}
+use Rattle.std.specs.List.{list_any}
 use Rattle.std.proofs.lemmas.List.Sums.{length-filter, count_by-le-length}
 use Rattle.config_read.specs.declared.config.Config.{Config}
 use Rattle.config_read.specs.First.{IsSpelled}

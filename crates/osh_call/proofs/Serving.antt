@@ -1,5 +1,5 @@
 -- How a call is served by what its stages answer.
-use Rattle.std.proofs.Common.{◌≡◌, ◌++◌, ◌∙◌, ◌⊎◌, inl, inr, ℕ, Bool, IsTrue, List, [], take, ap, sym, subst, refl, append-nil, arith, Some}
+use Rattle.std.proofs.Common.{◌≡◌, ◌++◌, ◌∙◌, inl, inr, ℕ, Bool, IsTrue, List, [], take, ap, sym, subst, refl, append-nil, Some}
 use Rattle.ds_port.specs.FileMap.{FileMap, file_at}
 use Rattle.flow_graph.specs.Charts.{Chart}
 use Rattle.flow_rules.specs.declared.verdict.Verdict.{Verdict}
@@ -7,12 +7,12 @@ use Rattle.flow_rules.specs.declared.verdict.Verdict.TheVariants.{Accepted, Refu
 use Rattle.flow_rules.specs.Verdicts.{IsVerdict}
 use Rattle.osh_ends.specs.Ends.{End, usage, unbuilt, bad_flow, bad_config, bad_shape, absent, mismatch, crowded, verdict_end, Checks, ChecksFile, FlowIn, NodesIn, Shapes}
 use Rattle.flow_outputs.specs.Outputs.{with_files}
-use Rattle.osh_ends.specs.Leaves.{Broke, Leaves, outputs, printed}
+use Rattle.osh_ends.specs.Leaves.{Broke, outputs, printed}
 use Rattle.osh_ends.specs.Steps.{Reads}
 use Rattle.osh_ends.specs.Reports.{verdict_report}
 use Rattle.osh_call.specs.declared.answer.Answer.{Answer}
 use Rattle.osh_call.specs.declared.answer.Answer.TheVariants as answer
-use Rattle.osh_call.specs.Answers.{Answers, Halts, Serves, Tells}
+use Rattle.osh_call.specs.Answers.{Halts, Serves, Tells}
 use Rattle.flow_graph.specs.declared.flow.Flow.{Flow}
 use Rattle.osh_call.specs.Stages.{Has, IsFlowIn, IsNodesIn, IsShapeIn, FileStops, FlowInStops, NodesInStops, ShapeStops, ShapeFileStops}
 

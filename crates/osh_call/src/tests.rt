@@ -33,7 +33,7 @@ fn compare(
 }
 
 // Flows and what is printed of their verdicts.
-const VERDICTS: [(&[u8], &[u8], u8); 19] = [
+const VERDICTS: [(&[u8], &[u8], u8); 24] = [
     (
         b"import -file \"in.txt\" -schema 'record ( id: int32; )' | [any] copy [seq] | [any] export -file \"out.txt\"",
         b"verdict accepted\nlink 0 agree() solo sort()\nlink 1 agree() solo sort()\nsink 2 exact\nstatus 0\n",
@@ -129,6 +129,31 @@ const VERDICTS: [(&[u8], &[u8], u8); 19] = [
         b"verdict accepted\nlink 0 agree(a) hash(a) sort()\nlink 1 agree(x) solo sort()\nsink 2 by x\nstatus 0\n",
         0,
     ),
+    (
+        b"import -file \"in.txt\" -schema 'record ( id: int32; name: string[max=10]; )' | [entire] copy | [any] export -file \"out.txt\"",
+        b"verdict refused link 0 need notentire have agree() entire sort()\nstatus 5\n",
+        5,
+    ),
+    (
+        b"import -file \"r.txt\" -schema 'record ( id: int32; city: string[max=8]; )' > r.v; import -file \"in.txt\" -schema 'record ( id: int32; name: string[max=10]; )' | [rr] lookup -key id < [entire] r.v | [any] export -file \"out.txt\"",
+        b"verdict accepted\nlink 0 bag none sort()\nlink 1 agree() entire sort()\nlink 2 bag solo sort()\nsink 3 bag\nstatus 0\n",
+        0,
+    ),
+    (
+        b"import -file \"r.txt\" -schema 'record ( id: int32; city: string[max=8]; )' > r.v; import -file \"in.txt\" -schema 'record ( id: int32; name: string[max=10]; )' | [rr] lookup -key id < [hash id] r.v | [any] export -file \"out.txt\"",
+        b"verdict refused link 1 need reference(id) have agree(id) hash(id) sort()\nstatus 5\n",
+        5,
+    ),
+    (
+        b"import -file \"r.txt\" -schema 'record ( k: int32; b: string[max=4]; )' > r.v; import -file \"l.txt\" -schema 'record ( k: int32; a: string[max=4]; )' | [hash a] tsort -key k | [same] innerjoin -key k < [hash k] r.v | [any] export -file \"out.txt\"",
+        b"verdict refused link 1 need placed(k) have agree(a) hash(a) sort(k)\nstatus 5\n",
+        5,
+    ),
+    (
+        b"import -file \"r.txt\" -schema 'record ( k: int32; b: string[max=4]; )' > r.v; import -file \"l.txt\" -schema 'record ( k: int32; a: string[max=4]; )' | tsort -key k [seq] | [same] innerjoin -key k < [hash k] r.v | [any] export -file \"out.txt\"",
+        b"verdict refused link 2 need place solo have agree(k) hash(k) sort()\nstatus 5\n",
+        5,
+    ),
 ];
 
 #[test]
@@ -140,7 +165,7 @@ fn flows_have_their_verdicts(rt: HostRuntime) -> Result<(), Fail> {
 }
 
 // Texts that are no flow, flows without a shape, and flows that aren't built.
-const STOPS: [(&[u8], u8, &[u8]); 8] = [
+const STOPS: [(&[u8], u8, &[u8]); 9] = [
     (b"", 2, b"osh: flow 0 Syntax\n"),
     (b"import", 2, b"osh: flow 0 MissingOption\n"),
     (b"import -file \"in", 2, b"osh: flow 13 Token\n"),
@@ -160,7 +185,7 @@ const STOPS: [(&[u8], u8, &[u8]); 8] = [
         b"osh: unbuilt\n",
     ),
     (
-        b"import -file \"in.txt\" -schema 'record ( id: int32; )' | group -count n [seq] | export -file \"out.txt\"",
+        b"import -file \"in.txt\" -schema 'record ( id: int32; )' | funnel -sequence [seq] | export -file \"out.txt\"",
         8,
         b"osh: unbuilt\n",
     ),
@@ -168,6 +193,11 @@ const STOPS: [(&[u8], u8, &[u8]); 8] = [
         b"import -file \"in.txt\" -schema 'record ( a: int32; b: int32; )' | transform -set 'q: int32 = a + nosuch' [seq] | export -file \"out.txt\"",
         4,
         b"osh: shape Expression op 1\n",
+    ),
+    (
+        b"import -file \"in.txt\" -schema 'record ( id: int32; name: string[max=10]; )' | [entire] export -file \"out.txt\"",
+        4,
+        b"osh: shape Method op 1\n",
     ),
 ];
 

@@ -19,7 +19,13 @@ fn is_built_op(kind: &OpKind) -> bool
         | OpKind::Modify { .. }
         | OpKind::Switch { .. }
         | OpKind::Tsort { .. }
-        | OpKind::Remdup { .. } => true,
+        | OpKind::Remdup { .. }
+        | OpKind::Group { .. }
+        | OpKind::InnerJoin { .. }
+        | OpKind::LeftOuterJoin { .. }
+        | OpKind::RightOuterJoin { .. }
+        | OpKind::FullOuterJoin { .. }
+        | OpKind::Lookup { .. } => true,
         _ => false,
     }
 }
@@ -28,7 +34,12 @@ fn needs_sort(kind: &OpKind) -> bool
     ensures { result ≡ needs_sort kind.now }
 {
     match kind {
-        OpKind::Remdup { key, .. } => !key.as_slice().is_empty(),
+        OpKind::Group { key, hash, .. } => !hash && !key.as_slice().is_empty(),
+        OpKind::Remdup { key, .. }
+        | OpKind::InnerJoin { key }
+        | OpKind::LeftOuterJoin { key }
+        | OpKind::RightOuterJoin { key }
+        | OpKind::FullOuterJoin { key } => !key.as_slice().is_empty(),
         _ => false,
     }
 }
@@ -57,7 +68,7 @@ fn is_built_method(from: bool, to: bool, consumer_sorts: bool, method: &Method) 
     match method {
         Method::Auto => from && to && !consumer_sorts,
         Method::RoundRobin => !to,
-        Method::Same | Method::Hash(_) | Method::Any => true,
+        Method::Same | Method::Entire | Method::Hash(_) | Method::Any => true,
         _ => false,
     }
 }

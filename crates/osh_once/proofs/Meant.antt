@@ -1,5 +1,5 @@
 -- Over the same files a flow means one thing: its operators are the same, and so are their faults.
-use Rattle.std.proofs.Common.{◌≡◌, ℕ, inl, inr, List, [], ◌∷◌, ◌++◌, map, refl, sym, ap, ap₂, ◌∙◌, subst, Option, None}
+use Rattle.std.proofs.Common.{◌≡◌, ℕ, inl, inr, List, [], ◌∷◌, ◌++◌, map, refl, sym, ap, ap₂, ◌∙◌, subst, None}
 use Rattle.std.specs.List.{AllByRecursion}
 use Rattle.ds_port.specs.FileMap.{FileMap}
 use Rattle.ds_schema.specs.declared.schema.Field.{Field}
@@ -41,6 +41,12 @@ same_op files c o (kind.Modify keep drop rename) ins a b stands none x y = x ∙
 same_op files c o (kind.Switch on cases reject) ins a b stands none x y = x ∙ sym y
 same_op files c o (kind.Tsort key) ins a b stands none x y = x ∙ sym y
 same_op files c o (kind.Remdup key last) ins a b stands none x y = x ∙ sym y
+same_op files c o (kind.Group key hash results) ins a b stands none x y = x ∙ sym y
+same_op files c o (kind.InnerJoin key) ins a b stands none x y = x ∙ sym y
+same_op files c o (kind.LeftOuterJoin key) ins a b stands none x y = x ∙ sym y
+same_op files c o (kind.RightOuterJoin key) ins a b stands none x y = x ∙ sym y
+same_op files c o (kind.FullOuterJoin key) ins a b stands none x y = x ∙ sym y
+same_op files c o (kind.Lookup key missing) ins a b stands none x y = x ∙ sym y
 same_op files c o k ins a b stands none x y = absurd x
 
 same_nodes : (c : Chart) (a b : ℕ → Op) (order : List ℕ) → ((o : ℕ) → IsIn o order → a o ≡ b o) → map (node_at c a) order ≡ map (node_at c b) order

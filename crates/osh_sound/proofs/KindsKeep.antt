@@ -23,9 +23,12 @@ use Rattle.ds_text.specs.Forms.{IsDelimiter, IsWidth}
 use Rattle.flow_graph.specs.declared.flow.Mark.{Mark}
 use Rattle.flow_graph.specs.declared.flow.Mark.TheVariants as mark
 use Rattle.op_row.specs.Expressed.{AreDistinct}
+use Rattle.flow_graph.specs.declared.op_kind.AggSpec.{AggSpec}
+use Rattle.flow_graph.specs.declared.op_kind.AggSpec.TheVariants as agg
 use Rattle.flow_graph.specs.declared.op_kind.SetSpec.{SetSpec}
 use Rattle.flow_graph.specs.declared.op_kind.OpKind.{OpKind}
 use Rattle.flow_graph.specs.declared.op_kind.OpKind.TheVariants as kind
+use Rattle.op_shape.specs.Keyed.{result_name}
 use Rattle.op_shape.specs.Naming.{NamesDiffer}
 use Rattle.op_shape.specs.Options.{KeysDistinct, OptionsStand}
 use Rattle.osh_table.specs.declared.operator.OpName.{OpName}
@@ -38,11 +41,11 @@ use Rattle.osh_value.specs.declared.value.OptValue.{OptValue}
 use Rattle.osh_value.specs.declared.value.OptValue.TheVariants as value
 use Rattle.osh_value.specs.declared.setting.Setting.{Setting}
 use Rattle.osh_value.specs.Values.{content_of, file_value, schema_value, delim_value, missing_named, kept_expression, set_value, new_name_at, rename_at, renames_at, cases_at, widths_at, said_at, whole_at, if_read, unless_bad, inside, value_of}
-use Rattle.osh_value.specs.Kinds.{number_of, found_value, stands, name_in, schema_in, delim_in, widths_in, keys_in, renames_in, expression_in, cases_in, set_in, sets_of, with_value, transform_by, kind_of}
+use Rattle.osh_value.specs.Kinds.{number_of, found_value, stands, name_in, schema_in, delim_in, widths_in, keys_in, renames_in, expression_in, cases_in, result_in, results_of, set_in, sets_of, with_value, transform_by, kind_of}
 use Rattle.osh_read.specs.Stages.{plain_mark, bears}
 use Rattle.osh_sound.specs.Grammar.{WrittenOption, setting_of, value_phrase, options_phrase, mark_word, mark_phrase}
 use Rattle.osh_sound.specs.Sound.{AreWidths, FormStands, MarkFits}
-use Rattle.osh_sound.proofs.ListsKeep.{widths_good, renames_good, cases_good, set_good}
+use Rattle.osh_sound.proofs.ListsKeep.{widths_good, renames_good, cases_good, new_name_good, rename_good, set_good}
 
 some_is : {A : Type 0} (x y : A) → (let o : Option A = Some x in o) ≡ Some y → x ≡ y
 some_is x y h = cc
@@ -50,7 +53,7 @@ some_is x y h = cc
 -- ---- values
 
 -- the names of a key list differ, a delimiter and widths are such as records can have, new names and fields are such as
--- schemas have, and no case stands twice
+-- schemas have, those of a group's results too, and no case stands twice
 abbrev GoodValue : OptValue → Type 0
 GoodValue (value.Keys keys) = NamesDiffer keys
 GoodValue (value.Delim b) = IsDelimiter b
@@ -58,6 +61,7 @@ GoodValue (value.Widths widths) = AllByRecursion IsWidth widths
 GoodValue (value.Renames pairs) = AllByRecursion (λ (p : List ℕ × List ℕ). IsFieldName p.0) pairs
 GoodValue (value.Set set) = IsField set.field
 GoodValue (value.Cases cases) = AreDistinct cases
+GoodValue (value.Result r) = IsFieldName (result_name r)
 GoodValue v = Unit {0}
 
 pub differ : (keys : List (List ℕ × Bool)) → columns.NamesDiffer key_name keys → NamesDiffer keys
@@ -73,12 +77,12 @@ said_good form.Columns ts rest v h = let a = bind_ok (names_at {W = Unit {0}} tt
 said_good form.Keys ts rest v h = let a = bind_ok (keys_at {W = Unit {0}} tt ts) _ (v, rest) h in made_good (value.Keys a.0.0) v a.0.1 rest (differ a.0.0 (keys_stand tt ts a.0.1 a.0.0 a.1).0.differ) a.2
 said_good form.Renames ts rest v h = let a = bind_ok (renames_at ts) _ (v, rest) h in made_good (value.Renames a.0.0) v a.0.1 rest (renames_good ts a.0.1 a.0.0 a.1) a.2
 said_good form.Cases ts rest v h = let a = bind_ok (cases_at ts) _ (v, rest) h in made_good (value.Cases a.0.0) v a.0.1 rest (cases_good ts a.0.1 a.0.0 a.1) a.2
-said_good form.Count ts rest v h = let a = bind_ok (new_name_at ts) _ (v, rest) h in made_good _ v a.0.1 rest tt a.2
-said_good form.Sum ts rest v h = let a = bind_ok (rename_at [] ts) _ (v, rest) h in made_good _ v a.0.1 rest tt a.2
-said_good form.Min ts rest v h = let a = bind_ok (rename_at [] ts) _ (v, rest) h in made_good _ v a.0.1 rest tt a.2
-said_good form.Max ts rest v h = let a = bind_ok (rename_at [] ts) _ (v, rest) h in made_good _ v a.0.1 rest tt a.2
-said_good form.First ts rest v h = let a = bind_ok (rename_at [] ts) _ (v, rest) h in made_good _ v a.0.1 rest tt a.2
-said_good form.Last ts rest v h = let a = bind_ok (rename_at [] ts) _ (v, rest) h in made_good _ v a.0.1 rest tt a.2
+said_good form.Count ts rest v h = let a = bind_ok (new_name_at ts) _ (v, rest) h in made_good (value.Result (agg.Count a.0.0)) v a.0.1 rest (new_name_good ts a.0.1 a.0.0 a.1) a.2
+said_good form.Sum ts rest v h = let a = bind_ok (rename_at [] ts) _ (v, rest) h in made_good (value.Result (agg.Sum a.0.0.0 a.0.0.1)) v a.0.1 rest (rename_good [] ts a.0.1 a.0.0 a.1) a.2
+said_good form.Min ts rest v h = let a = bind_ok (rename_at [] ts) _ (v, rest) h in made_good (value.Result (agg.Min a.0.0.0 a.0.0.1)) v a.0.1 rest (rename_good [] ts a.0.1 a.0.0 a.1) a.2
+said_good form.Max ts rest v h = let a = bind_ok (rename_at [] ts) _ (v, rest) h in made_good (value.Result (agg.Max a.0.0.0 a.0.0.1)) v a.0.1 rest (rename_good [] ts a.0.1 a.0.0 a.1) a.2
+said_good form.First ts rest v h = let a = bind_ok (rename_at [] ts) _ (v, rest) h in made_good (value.Result (agg.First a.0.0.0 a.0.0.1)) v a.0.1 rest (rename_good [] ts a.0.1 a.0.0 a.1) a.2
+said_good form.Last ts rest v h = let a = bind_ok (rename_at [] ts) _ (v, rest) h in made_good (value.Result (agg.Last a.0.0.0 a.0.0.1)) v a.0.1 rest (rename_good [] ts a.0.1 a.0.0 a.1) a.2
 said_good other ts rest v h = absurd cc
 
 whole_good : (f : Form) (ts : List Lexeme) (v : OptValue) → whole_at f ts ≡ Ok v → GoodValue v
@@ -269,6 +273,17 @@ sets_good : (ss : List Setting) → AllGood ss → AreFields (sets_of ss)
 sets_good [] g = tt
 sets_good (s ∷ ss) g = set_before s.value (sets_of ss) g.0 (sets_good ss g.1)
 
+abbrev AreNamed : List AggSpec → Type 0
+AreNamed results = AllByRecursion (λ (a : AggSpec). IsFieldName (result_name a)) results
+
+result_before : (v : OptValue) (results : List AggSpec) → GoodValue v → AreNamed results → AreNamed (cons_option (result_in v) results)
+result_before (value.Result r) results g h = (g, h)
+result_before v results g h = h
+
+results_good : (ss : List Setting) → AllGood ss → AreNamed (results_of ss)
+results_good [] g = tt
+results_good (s ∷ ss) g = result_before s.value (results_of ss) g.0 (results_good ss g.1)
+
 -- the keys of an operator differ, it runs as it can, its file has a form that records can have, and its options stand
 abbrev pub Keeps : Mark → OpKind → Type 0
 Keeps m k = KeysDistinct k × MarkFits k m × FormStands k × OptionsStand k
@@ -293,13 +308,13 @@ keeps_by op.Modify ss k m g c h = kept (Keeps m) _ k (tt, c, tt, renames_of (fou
 keeps_by op.Tsort ss k m g c h = kept (Keeps m) _ k (keys_good ss g, c, tt, tt) h
 keeps_by op.Remdup ss k m g c h = kept (Keeps m) _ k (keys_good ss g, c, tt, tt) h
 keeps_by op.Copy ss k m g c h = kept (Keeps m) _ k (tt, c, tt, tt) h
-keeps_by op.Group ss k m g c h = kept (Keeps m) _ k (tt, c, tt, tt) h
-keeps_by op.InnerJoin ss k m g c h = kept (Keeps m) _ k (tt, c, tt, tt) h
-keeps_by op.LeftOuterJoin ss k m g c h = kept (Keeps m) _ k (tt, c, tt, tt) h
-keeps_by op.RightOuterJoin ss k m g c h = kept (Keeps m) _ k (tt, c, tt, tt) h
-keeps_by op.FullOuterJoin ss k m g c h = kept (Keeps m) _ k (tt, c, tt, tt) h
+keeps_by op.Group ss k m g c h = kept (Keeps m) _ k (keys_good ss g, c, tt, results_good ss g) h
+keeps_by op.InnerJoin ss k m g c h = kept (Keeps m) _ k (keys_good ss g, c, tt, tt) h
+keeps_by op.LeftOuterJoin ss k m g c h = kept (Keeps m) _ k (keys_good ss g, c, tt, tt) h
+keeps_by op.RightOuterJoin ss k m g c h = kept (Keeps m) _ k (keys_good ss g, c, tt, tt) h
+keeps_by op.FullOuterJoin ss k m g c h = kept (Keeps m) _ k (keys_good ss g, c, tt, tt) h
 keeps_by op.Merge ss k m g c h = kept (Keeps m) _ k (tt, c, tt, tt) h
-keeps_by op.Lookup ss k m g c h = kept (Keeps m) _ k (tt, c, tt, tt) h
+keeps_by op.Lookup ss k m g c h = kept (Keeps m) _ k (keys_good ss g, c, tt, tt) h
 keeps_by op.Changecapture ss k m g c h = kept (Keeps m) _ k (tt, c, tt, tt) h
 keeps_by op.Funnel ss k m g c h = kept (Keeps m) _ k (tt, c, tt, tt) h
 

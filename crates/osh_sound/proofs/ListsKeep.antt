@@ -80,7 +80,7 @@ widths_good ts rest ws h = commas_keep (AllByRecursion IsWidth) (λ found. width
 
 -- ---- names
 
-new_name_good : (ts rest : List Lexeme) (name : List ℕ) → new_name_at ts ≡ Ok (name, rest) → IsFieldName name
+pub new_name_good : (ts rest : List Lexeme) (name : List ℕ) → new_name_at ts ≡ Ok (name, rest) → IsFieldName name
 unfolding new_name_at
 new_name_good ts rest name h =
     let a = bind_ok (sort_at sort.Word (tt {0}) ts) _ (name, rest) h in
@@ -90,10 +90,10 @@ new_name_good ts rest name h =
     let same : a.0.0.bytes ≡ name = (taken (is_name a.0.0.bytes) a.0.0.bytes c.0 _ c.1).1 ∙ (ok_parts (c.0, a.0.1) (name, rest) c.2).0 in
     subst IsFieldName same (field_name a.0.0.bytes field)
 
-abbrev IsGiven : List ℕ × List ℕ → Type 0
+abbrev pub IsGiven : List ℕ × List ℕ → Type 0
 IsGiven p = IsFieldName p.0
 
-rename_good : (found : List (List ℕ × List ℕ)) (ts rest : List Lexeme) (p : List ℕ × List ℕ) → rename_at found ts ≡ Ok (p, rest) → IsGiven p
+pub rename_good : (found : List (List ℕ × List ℕ)) (ts rest : List Lexeme) (p : List ℕ × List ℕ) → rename_at found ts ≡ Ok (p, rest) → IsGiven p
 unfolding rename_at
 rename_good found ts rest p h =
     let a = bind_ok (new_name_at ts) _ (p, rest) h in

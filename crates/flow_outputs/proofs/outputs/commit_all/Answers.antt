@@ -1,4 +1,3 @@
-use Rattle.std.proofs.Common.{rules}
 use Rattle.flow_outputs.specs.Outputs.{file_from}
 use Rattle.flow_outputs.proofs.Makings.{makes_next, cause_next}
 use Rattle.flow_outputs.proofs.outputs.commit_all.Goals as goal

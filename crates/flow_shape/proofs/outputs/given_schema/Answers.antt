@@ -1,17 +1,13 @@
-use Rattle.std.proofs.Common.{◌≡◌, ◌<◌, ◌∷◌, [], None, ap, sym, get_or, length, subst, IfOk, option_copied}
+use Rattle.std.proofs.Common.{◌≡◌, ◌<◌, None, ap, ◌∙◌, sym, get_or, length, map, subst, IfOk}
 use Rattle.flow_graph.specs.declared.flow.LinkSpec.{LinkSpec}
 use Rattle.flow_graph.specs.declared.flow.OpSpec.{OpSpec}
 use Rattle.flow_graph.specs.Charts.{no_link, no_op}
-use Rattle.op_shape.specs.Options.{OptionsStand, fields_in, output_fields}
-use Rattle.flow_shape.specs.Refusals.{chart_of, operator_cause, given_on}
+use Rattle.op_shape.specs.Options.{OptionsStand}
+use Rattle.flow_shape.specs.Refusals.{chart_of, operator_cause}
 use Rattle.flow_shape.proofs.Causing.{all_at, known_at}
-use Rattle.flow_shape.proofs.Entries.{first_is}
-use Rattle.flow_shape.proofs.Given.{ends, fed_at, given_same}
+use Rattle.flow_shape.proofs.Given.{as_many, ends, fed_at, given_same}
 use Rattle.flow_shape.proofs.Sound.{own_none}
 use Rattle.flow_shape.proofs.outputs.given_schema.Goals as goal
-
-pub first_schema-first-requires : goal.first_schema-first-requires
-first_schema-first-requires c = c.requires.each_link
 
 pub op_at-requires : goal.op_at-requires
 op_at-requires c = let within = (ends c.args.flow.now c.args.link c.requires.within c.requires.link).0 in rw c.link_at-spec.ensures within
@@ -27,16 +23,14 @@ pub output_schema-requires-clause-fed : goal.output_schema-requires-clause-fed
 output_schema-requires-clause-fed c =
     let link = c.link_at-spec.result.now in
     let within : link.from < length c.args.flow.now.ops = subst (λ (l : LinkSpec). l.from < length c.args.flow.now.ops) (sym c.link_at-spec.ensures) (ends c.args.flow.now c.args.link c.requires.within c.requires.link).0 in
-    let fed = fed_at c.args.flow.now c.args.schemas.now link.from _ c.requires.known c.requires.ports within c.first_schema-first.ensures in
+    let fed = fed_at c.args.flow.now c.args.schemas.now link.from _ c.requires.known c.requires.ports within (as_many (λ s. s.now) c.in_ok-ins.ins.items _ _ c.as_slice.ensures.value c.in_ok-ins.ensures) in
     rw c.op_at.ensures fed
 
 pub output_schema-requires-clause-sound : goal.output_schema-requires-clause-sound
 output_schema-requires-clause-sound c =
     let link = c.link_at-spec.result.now in
-    let within : link.from < length c.args.flow.now.ops = subst (λ (l : LinkSpec). l.from < length c.args.flow.now.ops) (sym c.link_at-spec.ensures) (ends c.args.flow.now c.args.link c.requires.within c.requires.link).0 in
     let sound = subst (λ (l : LinkSpec). operator_cause (chart_of c.args.flow.now c.args.schemas.now) l.from ≡ None) (sym c.link_at-spec.ensures) c.requires.sound in
-    let none = own_none c.args.flow.now c.args.schemas.now link.from (fields_in (option_copied c.first_schema-first.result)) (known_at c.args.flow.now link.from c.requires.known within)
-    (first_is c.args.flow.now c.args.schemas.now link.from _ c.first_schema-first.ensures) sound in
+    let none = own_none c.args.flow.now c.args.schemas.now link.from (map (λ s. s.now) c.as_slice.result.now) (ap (map (λ s. s.now)) c.as_slice.ensures.value ∙ c.in_ok-ins.ensures) sound in
     rw c.op_at.ensures none
 
 pub output_schema-requires-clause-stand : goal.output_schema-requires-clause-stand
@@ -48,8 +42,5 @@ output_schema-requires-clause-stand c =
 
 pub returns : goal.returns
 returns c =
-    let link = c.link_at-spec.result.now in
-    let within : link.from < length c.args.flow.now.ops = subst (λ (l : LinkSpec). l.from < length c.args.flow.now.ops) (sym c.link_at-spec.ensures) (ends c.args.flow.now c.args.link c.requires.within c.requires.link).0 in
-    let first = fields_in (option_copied c.first_schema-first.result) in
-    let e = given_same c.args.flow.now c.args.schemas.now c.args.link c.op_at.result.now link first c.requires.known within c.link_at-spec.ensures c.op_at.ensures (first_is c.args.flow.now c.args.schemas.now link.from _ c.first_schema-first.ensures) in
+    let e = given_same c.args.flow.now c.args.schemas.now c.args.link c.op_at.result.now c.link_at-spec.result.now (map (λ s. s.now) c.as_slice.result.now) c.link_at-spec.ensures c.op_at.ensures (ap (map (λ s. s.now)) c.as_slice.ensures.value ∙ c.in_ok-ins.ensures) in
     subst (λ x. IfOk c.output_schema.result (λ schema. schema ≡ x)) e c.output_schema.ensures

@@ -1,10 +1,9 @@
 use Rattle.std.proofs.Common.{◌<◌, subst, sym, length, get_or, ℕ, List, []}
-use Rattle.flow_graph.specs.Charts.{op_at, parts_of}
-use Rattle.list_run.specs.Held.{CanTurn, MaySend, Steps, sent_on}
-use Rattle.flow_rules.specs.Exports.{input_of}
+use Rattle.flow_graph.specs.Charts.{op_at}
+use Rattle.list_run.specs.Held.{CameFits, MaySend, Steps, sent_on, waits}
 use Rattle.list_run.specs.Runnable.{IsBuilt}
 use Rattle.list_run.proofs.Ordered.{at_place, order_below}
-use Rattle.list_run.proofs.Standing.{can_turn, may_send, stands_next}
+use Rattle.list_run.proofs.Standing.{came_fits, may_send, stands_next}
 use Rattle.list_run.proofs.run.run_all.Goals as goal
 
 pub run_operator-requires-clause-op : goal.run_operator-requires-clause-op
@@ -25,18 +24,16 @@ run_operator-requires-clause-may c =
     let chart = c.args.shaped.now in
     let i = c.loop-op.op-index in
     let m = subst (λ (xs : List ℕ). i < length xs) c.order-op-items.ensures c.loop-op-test.true in
-    let b = at_place (λ o. o < length chart.flow.ops) chart.order i m (order_below chart c.requires.runs.shape.order) in
-    subst (λ (xs : List ℕ). MaySend chart c.args.nodes (get_or xs i 0) (sent_on chart (λ j. get_or c.loop-op.held.waiting.items j []) (λ j. get_or c.loop-op.sources.items j []))) (sym c.order-op-items.ensures)
-    (may_send chart c.args.choices.now c.args.nodes c.args.sources.now.items i c.loop-op.sources.items c.loop-op.held c.requires.runs m b c.loop-op.invariant)
+    subst (λ (xs : List ℕ). MaySend chart c.args.nodes (get_or xs i 0) (sent_on chart (waits c.loop-op.held) (λ j. get_or c.loop-op.sources.items j []))) (sym c.order-op-items.ensures)
+    (may_send chart c.args.choices.now c.args.nodes c.args.sources.now.items i c.loop-op.sources.items c.loop-op.held c.requires.runs m c.loop-op.invariant)
 
-pub run_operator-requires-clause-can : goal.run_operator-requires-clause-can
-run_operator-requires-clause-can c =
+pub run_operator-requires-clause-fits : goal.run_operator-requires-clause-fits
+run_operator-requires-clause-fits c =
     let chart = c.args.shaped.now in
     let i = c.loop-op.op-index in
     let m = subst (λ (xs : List ℕ). i < length xs) c.order-op-items.ensures c.loop-op-test.true in
-    let b = at_place (λ o. o < length chart.flow.ops) chart.order i m (order_below chart c.requires.runs.shape.order) in
-    subst (λ (xs : List ℕ). CanTurn (op_at chart (get_or xs i 0)).kind (parts_of chart (get_or xs i 0)) (get_or c.loop-op.held.waiting.items (input_of chart (get_or xs i 0)) [])) (sym c.order-op-items.ensures)
-    (can_turn chart c.args.choices.now c.args.nodes c.args.sources.now.items i c.loop-op.sources.items c.loop-op.held c.requires.runs m b c.loop-op.invariant)
+    subst (λ (xs : List ℕ). CameFits chart (get_or xs i 0) (waits c.loop-op.held)) (sym c.order-op-items.ensures)
+    (came_fits chart c.args.choices.now c.args.nodes c.args.sources.now.items i c.loop-op.sources.items c.loop-op.held c.requires.runs m c.loop-op.invariant)
 
 pub loop-op-preserved : goal.loop-op-preserved
 loop-op-preserved c =

@@ -5,4 +5,4 @@ use Rattle.op_group.proofs.Fixtures.{IsNumbers}
 use Rattle.op_group.proofs.tests.rows.Goals as goal
 
 pub loop-key-preserved : goal.loop-key-preserved
-loop-key-preserved c = subst (AllByRecursion IsNumbers) (sym c.in_ok-push.ensures.items) (all_append IsNumbers c.loop-key.rows.items _ c.loop-key.invariant ((_, _, c.in_ok-row.ensures), tt))
+loop-key-preserved c = subst (AllByRecursion IsNumbers) (sym c.in_ok-push.ensures.items) (all_append IsNumbers c.loop-key.rows.items _ c.loop-key.invariant ((c.in_ok-row.ensures.0, _, c.in_ok-row.ensures.1, c.in_ok-row.ensures.2), tt))

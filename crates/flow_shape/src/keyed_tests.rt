@@ -1,0 +1,154 @@
+//! Flows with an operator of two inputs: their first faults.
+
+ghost use Rattle.std.specs.Prelude.{◌≡◌, IfOk};
+ghost use Rattle.flow_graph.specs.declared.flow.Flag.TheVariants as flag;
+ghost use Rattle.flow_graph.specs.declared.flow.Method.TheVariants as method;
+ghost use Rattle.op_shape.specs.Options.{IsKnown, KeysDistinct, OptionsStand};
+ghost use Rattle.flow_shape.specs.Refusals.{HasOnlyKnown};
+ghost use Rattle.flow_shape.specs.Spelled.{IsJoined};
+
+use crate::{ShapeFault, ShapeWhy, shape};
+use ds_schema::read_schema;
+use ds_value::{Items, Name, NoMemory};
+use flow_graph::{Flag, Flow, LinkSpec, Mark, Method, OpKind, OpSpec};
+use op_base::Missing;
+use std::alloc::Global;
+use std::test::Fail;
+
+const LEFT: &str = "record ( id: int32; name: string[max=10]; )";
+
+fn link(from: u32, to: u32, port: u32) -> LinkSpec
+    ensures { result ≡ record { from = from; out = 0; to = to; port = port; method = method.Auto; flag = flag.Prop } }
+{
+    LinkSpec {
+        from,
+        out: 0,
+        to,
+        port,
+        method: Method::Auto,
+        flag: Flag::Prop,
+    }
+}
+
+/// Two imports, an operator behind both, and an export.
+fn flow_of(
+    alloc: Global,
+    left: OpSpec,
+    right: OpSpec,
+    both: OpSpec,
+    last: OpSpec,
+) -> Result<Flow, NoMemory>
+    requires left { IsKnown left.kind × KeysDistinct left.kind × OptionsStand left.kind }
+    requires right { IsKnown right.kind × KeysDistinct right.kind × OptionsStand right.kind }
+    requires both { IsKnown both.kind × KeysDistinct both.kind × OptionsStand both.kind }
+    requires last { IsKnown last.kind × KeysDistinct last.kind × OptionsStand last.kind }
+    ensures known { IfOk result HasOnlyKnown }
+    ensures joined { IfOk result IsJoined }
+{
+    let mut ops = Items::new(alloc);
+    ops.push(left)?;
+    ops.push(right)?;
+    ops.push(both)?;
+    ops.push(last)?;
+    let mut links = Items::new(alloc);
+    links.push(link(0, 2, 0))?;
+    links.push(link(1, 2, 1))?;
+    links.push(link(2, 3, 0))?;
+    Ok(Flow {
+        nopart: false,
+        nosort: false,
+        ops,
+        links,
+    })
+}
+
+fn name(alloc: Global, text: &str) -> Result<Name, Fail> {
+    match Name::from_bytes(alloc, text.as_bytes())? {
+        Some(name) => Ok(name),
+        None => Err("no name".into()),
+    }
+}
+
+fn import(alloc: Global, file: &str, schema: &str) -> Result<OpSpec, Fail>
+    ensures { IfOk result (λ s. IsKnown s.kind × KeysDistinct s.kind × OptionsStand s.kind) }
+{
+    Ok(OpSpec {
+        kind: OpKind::Import {
+            file: name(alloc, file)?,
+            schema: read_schema(alloc, schema.as_bytes())?,
+            delim: b',',
+            fixed: None,
+            reject: false,
+        },
+        mark: Mark::Seq,
+    })
+}
+
+/// An export of three columns.
+fn export(alloc: Global) -> Result<OpSpec, Fail>
+    ensures { IfOk result (λ s. IsKnown s.kind × KeysDistinct s.kind × OptionsStand s.kind) }
+{
+    let mut widths = Items::new(alloc);
+    widths.push(5)?;
+    widths.push(5)?;
+    widths.push(5)?;
+    Ok(OpSpec {
+        kind: OpKind::Export {
+            file: name(alloc, "out.txt")?,
+            delim: b',',
+            fixed: Some(widths),
+        },
+        mark: Mark::Seq,
+    })
+}
+
+fn by_id(alloc: Global, looks_up: bool) -> Result<OpSpec, Fail>
+    ensures { IfOk result (λ s. IsKnown s.kind × KeysDistinct s.kind × OptionsStand s.kind) }
+{
+    let mut key = Items::new(alloc);
+    key.push((name(alloc, "id")?, false))?;
+    let kind = if looks_up {
+        OpKind::Lookup {
+            key,
+            missing: Missing::Drop,
+        }
+    } else {
+        OpKind::FullOuterJoin { key }
+    };
+    Ok(OpSpec {
+        kind,
+        mark: Mark::Par,
+    })
+}
+
+/// The first fault of a flow with a join or a lookup by `id`, of people with what is read from
+/// the second file; none where it has a shape.
+fn fault(alloc: Global, looks_up: bool, right: &str) -> Result<Option<(ShapeWhy, u32)>, Fail> {
+    let first = import(alloc, "l.txt", LEFT)?;
+    let second = import(alloc, "r.txt", right)?;
+    let both = by_id(alloc, looks_up)?;
+    let last = export(alloc)?;
+    let flow = flow_of(alloc, first, second, both, last)?;
+    match shape(alloc, flow, &[]) {
+        Ok(_) => Ok(None),
+        Err(ShapeFault::Bad { why, op }) => Ok(Some((why, op))),
+        Err(ShapeFault::Memory) => Err("no memory".into()),
+    }
+}
+
+#[test]
+fn flows_of_two_inputs(rt: HostRuntime) -> Result<(), Fail> {
+    let alloc = rt.alloc();
+    let rows = [
+        ("record ( city: string[8]; id: int32; )", None),
+        ("record ( city: string[8]; )", Some((ShapeWhy::Field, 2))),
+        ("record ( id: int64; )", Some((ShapeWhy::Kind, 2))),
+        ("record ( id: int32; name: date; )", Some((ShapeWhy::Double, 2))),
+        ("record ( id: int32; )", Some((ShapeWhy::Schemas, 3))),
+    ];
+    for (right, wanted) in &rows {
+        assert_eq!(rt; fault(alloc, false, right)?, *wanted);
+        assert_eq!(rt; fault(alloc, true, right)?, *wanted);
+    }
+    Ok(())
+}

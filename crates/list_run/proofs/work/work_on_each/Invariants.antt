@@ -1,6 +1,0 @@
-use Rattle.std.proofs.Common.{◌≡◌, map}
-use Rattle.list_run.specs.Made.{made}
-use Rattle.list_run.proofs.work.work_on_each.Given as goal
-
-abbrev pub invariant-loop-rows : goal.invariant-loop-rows
-invariant-loop-rows l = l.given ≡ map (made l.kind l.parts.keys) l.yielded

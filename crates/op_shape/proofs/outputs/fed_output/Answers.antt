@@ -1,8 +1,0 @@
-use Rattle.op_shape.proofs.Fit.{set_sound}
-use Rattle.op_shape.proofs.outputs.fed_output.Goals as goal
-
-pub transform_schema-requires-clause-sound : goal.transform_schema-requires-clause-sound
-transform_schema-requires-clause-sound c = rw c.as_slice.ensures (set_sound c.in-Transform.set c.in-Transform.reject c.args.first.now (rw c.in-Transform.is at c.requires.sound))
-
-pub modify_schema-requires-clause-stand : goal.modify_schema-requires-clause-stand
-modify_schema-requires-clause-stand c = rw c.as_slice-in-Modify-3.ensures (rw c.in-Modify.is at c.requires.stand)
