@@ -14,7 +14,7 @@ use Rattle.ds_schema.specs.Rows.{at, cols, ways}
 use Rattle.op_base.specs.declared.fault.Fault.{Fault}
 use Rattle.op_base.specs.declared.emit.Emit.{Emit}
 use Rattle.op_base.specs.Columns.{Row}
-use Rattle.op_base.specs.Feeds.{by_runs, run_by_run, taken_off, heads_in, behinds, fronts, least_of, rows_in}
+use Rattle.op_base.specs.Feeds.{run_by_run, taken_off, heads_in, behinds, fronts, least_of, rows_in}
 use Rattle.op_base.specs.Keyed.{get_keys, in_order, keys_in, subs}
 use Rattle.op_base.specs.Meanings.{Grouping, group_faults, input, overflow}
 use Rattle.op_base.specs.Standing.{RowStream, row_feed, end_feed}

@@ -1,26 +1,25 @@
 -- What joins and lookups emit is what they mean in a flow.
-use Rattle.std.proofs.Common.{◌≡◌, ℕ, zero, suc, ◌≤◌, ◌==◌, Bool, true, List, [], ◌∷◌, map, length, get_or, refl, sym, ap, ◌∙◌, subst, arith}
+use Rattle.std.proofs.Common.{◌≡◌, ℕ, zero, suc, ◌≤◌, Bool, true, List, [], ◌∷◌, map, length, get_or, refl, sym, ap, ◌∙◌, subst, arith}
 use Rattle.std.specs.Prelude.{Result, if◌then◌else◌}
 use Rattle.std.specs.Result.{IfOk}
-use Rattle.std.specs.List.{AllByRecursion, flat_map, list_all}
 use Rattle.std.proofs.lemmas.Result.{IfOk-weaker}
-use Rattle.streams.specs.Streams.{Feed, Out, sends, fails, on, faults_out}
+use Rattle.streams.specs.Streams.{Feed, Out, sends, on, faults_out}
 use Rattle.streams.proofs.Basics.{and_true}
 use Rattle.streams.proofs.StreamLaws.{eq_false}
 use Rattle.ds_schema.specs.declared.key.Key.{Key}
-use Rattle.ds_schema.specs.Rows.{cols, sub, val, ways}
+use Rattle.ds_schema.specs.Rows.{cols, sub, val}
 use Rattle.op_base.specs.declared.fault.Fault.{Fault}
 use Rattle.op_base.specs.declared.missing.Missing.{Missing}
 use Rattle.op_base.specs.declared.missing.Missing.TheVariants as missing
 use Rattle.op_base.specs.declared.emit.Emit.{Emit}
 use Rattle.op_base.specs.Columns.{Row}
 use Rattle.op_base.specs.Keyed.{get_keys}
-use Rattle.op_base.specs.Meanings.{Looking, if_fails, input, join_rule, looked_fault, looked_row}
+use Rattle.op_base.specs.Meanings.{if_fails, input, looked_fault}
 use Rattle.op_base.specs.Standing.{RowStream}
 use Rattle.op_base.specs.WholeLists.{HasEmitted}
 use Rattle.op_base.proofs.All.{all_flat_each}
 use Rattle.op_join.specs.declared.kind.JoinKind.{JoinKind}
-use Rattle.op_join.specs.Joining.{AreBelow, join_stream, join_suits, joining, row_suits}
+use Rattle.op_join.specs.Joining.{join_stream, join_suits, joining, row_suits}
 use Rattle.op_join.proofs.Means.{joins_match_runs}
 use Rattle.op_lookup.specs.Looked.{looked_stream, missing_fault, suits_lookup, suits_main, suits_reference}
 use Rattle.op_lookup.proofs.Means.{lookups-find-in-one-way}

@@ -157,8 +157,7 @@ can_work c o (kind.FullOuterJoin key) shape m e b w got came =
     (can_join c o shape m two b.1, length-map (links_into c o) got ∙ two, two_suit c o K got two (λ left right lefts rights i j f g. join_rows c left right lefts rights f g) came)
 can_work c o (kind.Lookup key missing) shape m e b w got came =
     let K = kind.Lookup key missing in
-    let two = ports_at c shape o m K e in
-    (
+    let two = ports_at c shape o m K e in (
       can_look c o shape m two b.1,
       length-map (links_into c o) got ∙ two,
       two_suit c o K got two (λ main reference rows found i j f g.
