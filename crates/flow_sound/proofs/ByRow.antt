@@ -22,6 +22,7 @@ use Rattle.flow_graph.specs.FlowShape.{ColumnsLie, FormPorts, IsShape}
 use Rattle.flow_graph.specs.RowRules.{first_expr, numbered, row_rule, sets_of}
 use Rattle.flow_graph.specs.Shapes.{PassesInto, RowShape, Wide}
 use Rattle.flow_graph.proofs.RowShapes.{filter_shape, modify_shape, switch_shape, transform_shape}
+use Rattle.flow_rules.specs.Exports.{input_of}
 use Rattle.op_shape.specs.Causes.{first_cause}
 use Rattle.op_shape.specs.Columns.{field_at, modified_fields, renamed, set_fields}
 use Rattle.op_shape.proofs.Firsts.{none_both}
@@ -30,7 +31,6 @@ use Rattle.op_shape.proofs.Putting.{width_is}
 use Rattle.op_shape.specs.Options.{made_or_rejected, operator_parts, option_causes, output_causes, output_fields}
 use Rattle.flow_shape.specs.Refusals.{IsShapeOf, fields_at, input_cause, inputs_at, kind_at, parts_at}
 use Rattle.flow_sound.specs.Fitting.{IsByRow}
-use Rattle.flow_rules.specs.Exports.{input_of}
 use Rattle.flow_sound.proofs.Members.{below_range}
 use Rattle.flow_sound.proofs.Order.{enters_it}
 use Rattle.flow_sound.proofs.SetRows.{wider}

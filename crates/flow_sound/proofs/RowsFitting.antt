@@ -16,10 +16,10 @@ use Rattle.flow_graph.specs.Operators.{Op, by_row, result}
 use Rattle.flow_graph.specs.RowRules.{row_rule}
 use Rattle.flow_graph.specs.Runs.{Means, Out}
 use Rattle.flow_graph.proofs.PartLaws.{parts_all}
+use Rattle.flow_rules.specs.Exports.{input_of}
 use Rattle.op_shape.specs.Options.{IsKeyed, first_fields, output_fields}
 use Rattle.flow_shape.specs.Refusals.{fields_at, inputs_at}
 use Rattle.flow_sound.specs.Fitting.{ExportsFit, IsByRow, MeaningFits, RowsFit}
-use Rattle.flow_rules.specs.Exports.{input_of}
 use Rattle.flow_sound.specs.Kinds.{IsOfKind}
 use Rattle.flow_sound.proofs.ByRow.{one_input, rows_fit, works_at}
 use Rattle.flow_sound.proofs.Fitting.{given_there, kind_of, lines_fit}
