@@ -2,7 +2,7 @@
 use Rattle.std.proofs.Common.{◌≡◌, ℕ, zero, suc, ◌≤◌, Bool, true, false, List, [], ◌∷◌, ◌++◌, map, length, append_assoc, refl, sym, ap, ap₂, ◌∙◌, subst, arith}
 use Rattle.std.specs.Prelude.{Option, Some, None, Result}
 use Rattle.std.specs.Result.{IfOk}
-use Rattle.std.specs.List.{AllByRecursion, list_all}
+use Rattle.std.specs.List.{AllByRecursion, flat_map, list_all}
 use Rattle.std.proofs.lemmas.Result.{IfOk-weaker}
 use Rattle.std.proofs.lemmas.List.{map-append}
 use Rattle.std.proofs.lemmas.List.Folds.{list_all-append}
@@ -14,18 +14,18 @@ use Rattle.ds_schema.specs.Rows.{at, cols, ways}
 use Rattle.op_base.specs.declared.fault.Fault.{Fault}
 use Rattle.op_base.specs.declared.emit.Emit.{Emit}
 use Rattle.op_base.specs.Columns.{Row}
-use Rattle.op_base.specs.Feeds.{by_runs, run_by_run, taken_off, heads_in, behinds, fronts, least_of, rows_in}
-use Rattle.op_base.specs.Keyed.{get_keys}
+use Rattle.op_base.specs.Feeds.{run_by_run, taken_off, heads_in, behinds, fronts, least_of, rows_in}
+use Rattle.op_base.specs.Keyed.{get_keys, in_order, keys_in, subs}
 use Rattle.op_base.specs.Meanings.{Grouping, group_faults, input, overflow}
 use Rattle.op_base.specs.Standing.{RowStream, row_feed, end_feed}
 use Rattle.op_base.specs.WholeLists.{HasEmitted, SuitsEach, list_feeds}
-use Rattle.op_base.proofs.All.{all_append}
+use Rattle.op_base.proofs.All.{all_append, all_flat_each}
 use Rattle.op_base.proofs.StandingLaws.{rows_of-row, rows_of-end}
 use Rattle.op_group.specs.declared.agg.Agg.{Agg}
 use Rattle.op_group.specs.declared.agg.Agg.TheVariants as agg
-use Rattle.op_group.specs.Groups.{sorted_stream, group_suits, row_suits, sums_alike, alike}
+use Rattle.op_group.specs.Groups.{hashed_stream, sorted_stream, group_suits, row_suits, sums_alike, alike}
 use Rattle.op_group.specs.Results.{column, grouping}
-use Rattle.op_group.proofs.Means.{sorted-groups}
+use Rattle.op_group.proofs.Means.{hashed-groups, sorted-groups}
 use Rattle.flow_graph.specs.declared.op_kind.AggSpec.{AggSpec}
 use Rattle.flow_graph.specs.declared.op_kind.OpKind.{OpKind}
 use Rattle.flow_graph.specs.declared.op_kind.OpKind.TheVariants as kind
@@ -77,12 +77,19 @@ suits_after keys aggs done before (r ∷ rows) e h =
 pub group_fed : (keys : List Key) (aggs : List Agg) (rows : List Row) → SuitsGroup keys aggs rows → SuitsEach (group_suits keys aggs) [] (list_feeds rows)
 group_fed keys aggs rows h = suits_after keys aggs [] [] rows refl h
 
--- a whole list, fed to a group of sorted rows
-pub is_group : (keys : List Key) (aggs : List Agg) (rows : List Row) (emit : Emit) (s : RowStream) → s ≡ sorted_stream keys aggs → HasEmitted emit (emits s (list_feeds rows)) → Gives s (λ i. rows) (emits s (list_feeds rows)) → Groups (grouping keys false aggs) rows emit
-is_group keys aggs rows emit s e has gives = record {
+-- a whole list, fed to a group
+pub is_sorted : (keys : List Key) (aggs : List Agg) (rows : List Row) (emit : Emit) (s : RowStream) → s ≡ sorted_stream keys aggs → HasEmitted emit (emits s (list_feeds rows)) → Gives s (λ i. rows) (emits s (list_feeds rows)) → Groups (grouping keys false aggs) rows emit
+is_sorted keys aggs rows emit s e has gives = record {
   given = emits s (list_feeds rows);
   emitted = has;
   means = sorted-groups keys aggs (λ i. rows) (emits s (list_feeds rows)) (subst (λ (z : RowStream). Gives z (λ i. rows) (emits s (list_feeds rows))) e gives);
+}
+
+pub is_hashed : (keys : List Key) (aggs : List Agg) (rows : List Row) (emit : Emit) (s : RowStream) → s ≡ hashed_stream keys aggs → HasEmitted emit (emits s (list_feeds rows)) → Gives s (λ i. rows) (emits s (list_feeds rows)) → Groups (grouping keys true aggs) rows emit
+is_hashed keys aggs rows emit s e has gives = record {
+  given = emits s (list_feeds rows);
+  emitted = has;
+  means = hashed-groups keys aggs (λ i. rows) (emits s (list_feeds rows)) (subst (λ (z : RowStream). Gives z (λ i. rows) (emits s (list_feeds rows))) e gives);
 }
 
 -- what a rule gives run by run, each with something done to it
@@ -110,6 +117,11 @@ runs_all P rule h (suc n) ds columns inputs = go (heads_in columns inputs) (runs
         let least = least_of ds v vs in
         all_append P (rule least (fronts columns least inputs)) (run_by_run n ds columns rule (behinds columns least inputs)) (h least (fronts columns least inputs)) (rec (behinds columns least inputs))
 
+-- and key value by key value
+pub values_mapped : {X Y Z : Type 0} (f : X → Y) (rule : Z → List X) (other : Z → List Y) → ((z : Z) → map f (rule z) ≡ other z) → (zs : List Z) → map f (flat_map rule zs) ≡ flat_map other zs
+values_mapped f rule other h [] = refl
+values_mapped f rule other h (z ∷ zs) = map-append f (rule z) (flat_map rule zs) ∙ ap₂ (λ a b. a ++ b) (h z) (values_mapped f rule other h zs)
+
 -- with the number of the operator
 overflow_at : (o : ℕ) (f : Fault) (found : Option (List Value)) → map (at_op o) (overflow f found) ≡ overflow (at_op o f) found
 overflow_at o f None = refl
@@ -127,28 +139,41 @@ rule_unnumbered : (keys : List Key) (hashes : Bool) (aggs : List Agg) (v : List 
 rule_unnumbered keys hashes aggs v [] = tt
 rule_unnumbered keys hashes aggs v (r ∷ rows) = overflow_unnumbered ((grouping keys hashes aggs).over v) refl ((grouping keys hashes aggs).results (r ∷ rows))
 
-sorted_faults : (o : ℕ) (g : Grouping) (lists : List (List Row)) → map (at_op o) (by_runs (ways g.keys) (cols g.keys ∷ []) (λ v same. group_faults g v (input 0 same)) lists) ≡ by_runs (ways g.keys) (cols g.keys ∷ []) (λ v same. group_faults (grouping_at o g) v (input 0 same)) lists
-sorted_faults o g lists =
-    runs_mapped (at_op o) (λ v same. group_faults g v (input 0 same)) (λ v same. group_faults (grouping_at o g) v (input 0 same)) (λ v same. faults_at o g v (input 0 same)) (rows_in (cols g.keys ∷ []) lists) (ways g.keys) (cols g.keys ∷ []) lists
+-- the faults of a group
+numbered_faults : (o : ℕ) (hash : Bool) (keys : List Key) (aggs : List Agg) (lists : List (List Row)) → map (at_op o) (faults_on (group (grouping keys hash aggs)) 0 lists) ≡ faults_on (group (grouping_at o (grouping keys hash aggs))) 0 lists
+numbered_faults o false keys aggs lists =
+    let g = grouping keys false aggs in
+    runs_mapped (at_op o) (λ v same. group_faults g v (input 0 same)) (λ v same. group_faults (grouping_at o g) v (input 0 same)) (λ v same. faults_at o g v (input 0 same)) (rows_in (cols keys ∷ []) lists) (ways keys) (cols keys ∷ []) lists
+numbered_faults o true keys aggs lists =
+    let g = grouping keys true aggs in
+    let columns : List (List ℕ) = cols keys ∷ [] in
+    values_mapped (at_op o) (λ v. group_faults g v (input 0 (subs columns v lists))) (λ v. group_faults (grouping_at o g) v (input 0 (subs columns v lists))) (λ v. faults_at o g v (input 0 (subs columns v lists))) (in_order true (ways keys) (keys_in columns lists))
+
+unnumbered_faults : (hash : Bool) (keys : List Key) (aggs : List Agg) (lists : List (List Row)) → AreUnnumbered (faults_on (group (grouping keys hash aggs)) 0 lists)
+unnumbered_faults false keys aggs lists =
+    runs_all (λ (f : Fault). f.op ≡ 0) (λ v same. group_faults (grouping keys false aggs) v (input 0 same)) (λ v same. rule_unnumbered keys false aggs v (input 0 same)) (rows_in (cols keys ∷ []) lists) (ways keys) (cols keys ∷ []) lists
+unnumbered_faults true keys aggs lists =
+    let columns : List (List ℕ) = cols keys ∷ [] in
+    all_flat_each (λ (f : Fault). f.op ≡ 0) (λ v. group_faults (grouping keys true aggs) v (input 0 (subs columns v lists))) (λ v. rule_unnumbered keys true aggs v (input 0 (subs columns v lists))) (in_order true (ways keys) (keys_in columns lists))
 
 one_list : (lists : List (List Row)) → length lists ≡ 1 → lists ≡ input 0 lists ∷ []
 one_list [] e = absurd (omega (arith, e))
 one_list (rows ∷ []) e = refl
 one_list (rows ∷ (more ∷ lists)) e = absurd (omega (arith, e))
 
-pub group_worked : (key : List (List ℕ × Bool)) (results : List AggSpec) (parts : OpParts) (widths : List ℕ) (lists : List (List Row)) (emit : Emit) → length lists ≡ 1 → Groups (grouping (get_keys parts.keys 0) false (aggs_of results parts.cols)) (input 0 lists) emit → HasWorked (kind.Group key false results) parts widths lists emit
-group_worked key results parts widths lists emit one w =
+pub group_worked : (key : List (List ℕ × Bool)) (hash : Bool) (results : List AggSpec) (parts : OpParts) (widths : List ℕ) (lists : List (List Row)) (emit : Emit) → length lists ≡ 1 → Groups (grouping (get_keys parts.keys 0) hash (aggs_of results parts.cols)) (input 0 lists) emit → HasWorked (kind.Group key hash results) parts widths lists emit
+group_worked key hash results parts widths lists emit one w =
     let keys = get_keys parts.keys 0 in
-    let g = grouping keys false (aggs_of results parts.cols) in
-    let rule : List Value → List (List Row) → List Fault = λ v same. group_faults g v (input 0 same) in
+    let aggs = aggs_of results parts.cols in
+    let g = grouping keys hash aggs in
     let same = one_list lists one in
     record {
       given = w.given;
       emitted = w.emitted;
       rows_are = λ o q. ap (λ p. on p w.given) (first q) ∙ w.means.rows_are ∙ ap (λ ls. result_on (group (grouping_at o g)) q 0 ls) (sym same);
       no_more = λ q l. none q l;
-      faults_are = λ o. ap (map (at_op o)) w.means.faults_are ∙ sorted_faults o g (input 0 lists ∷ []) ∙ ap (λ ls. faults_on (group (grouping_at o g)) 0 ls) (sym same);
-      unnumbered = subst AreUnnumbered (sym w.means.faults_are) (runs_all (λ (f : Fault). f.op ≡ 0) rule (λ v s. rule_unnumbered keys false (aggs_of results parts.cols) v (input 0 s)) (rows_in (cols keys ∷ []) (input 0 lists ∷ [])) (ways keys) (cols keys ∷ []) (input 0 lists ∷ []));
+      faults_are = λ o. ap (map (at_op o)) w.means.faults_are ∙ numbered_faults o hash keys aggs (input 0 lists ∷ []) ∙ ap (λ ls. faults_on (group (grouping_at o g)) 0 ls) (sym same);
+      unnumbered = subst AreUnnumbered (sym w.means.faults_are) (unnumbered_faults hash keys aggs (input 0 lists ∷ []));
     }
   where
     first : (q : ℕ) → place_of 1 q ≡ 0
@@ -159,11 +184,11 @@ group_worked key results parts widths lists emit one w =
     none (suc q) l = w.means.no_more q
 
 -- the same of an answer, where the kind is known
-pub group_does : {E : Type 0} (k : OpKind) (key : List (List ℕ × Bool)) (hash : Bool) (results : List AggSpec) (parts : OpParts) (widths : List ℕ) (lists : List (List Row)) (keys : List Key) (aggs : List Agg) (rows : List Row) (r : Result Emit E) → k ≡ kind.Group key hash results → hash ≡ false → length lists ≡ 1 →
-    keys ≡ get_keys parts.keys 0 → aggs ≡ aggs_of results parts.cols → rows ≡ input 0 lists → IfOk r (λ emit. Groups (grouping keys false aggs) rows emit) → IfOk r (λ emit. HasWorked k parts widths lists emit)
-group_does k key hash results parts widths lists keys aggs rows r known sorted one keyed summed same h =
-    IfOk-weaker r (λ emit. Groups (grouping keys false aggs) rows emit) (λ emit. HasWorked k parts widths lists emit)
-    (λ emit w. subst (λ k. HasWorked k parts widths lists emit) (sym (known ∙ ap (λ b. kind.Group key b results) sorted)) (group_worked key results parts widths lists emit one
-    (subst (λ ks. Groups (grouping ks false (aggs_of results parts.cols)) (input 0 lists) emit) keyed
-    (subst (λ (xs : List Agg). Groups (grouping keys false xs) (input 0 lists) emit) summed
-    (subst (λ rs. Groups (grouping keys false aggs) rs emit) same w))))) h
+pub group_does : {E : Type 0} (k : OpKind) (key : List (List ℕ × Bool)) (hash : Bool) (results : List AggSpec) (parts : OpParts) (widths : List ℕ) (lists : List (List Row)) (keys : List Key) (aggs : List Agg) (rows : List Row) (r : Result Emit E) → k ≡ kind.Group key hash results → length lists ≡ 1 →
+    keys ≡ get_keys parts.keys 0 → aggs ≡ aggs_of results parts.cols → rows ≡ input 0 lists → IfOk r (λ emit. Groups (grouping keys hash aggs) rows emit) → IfOk r (λ emit. HasWorked k parts widths lists emit)
+group_does k key hash results parts widths lists keys aggs rows r known one keyed summed same h =
+    IfOk-weaker r (λ emit. Groups (grouping keys hash aggs) rows emit) (λ emit. HasWorked k parts widths lists emit)
+    (λ emit w. subst (λ k. HasWorked k parts widths lists emit) (sym known) (group_worked key hash results parts widths lists emit one
+    (subst (λ ks. Groups (grouping ks hash (aggs_of results parts.cols)) (input 0 lists) emit) keyed
+    (subst (λ (xs : List Agg). Groups (grouping keys hash xs) (input 0 lists) emit) summed
+    (subst (λ rs. Groups (grouping keys hash aggs) rs emit) same w))))) h

@@ -62,4 +62,9 @@ fields_given c o (kind.Switch on cases reject) shape m e b w = let K = kind.Swit
 fields_given c o (kind.Tsort key) shape m e b w = let K = kind.Tsort key in passed c o (op_by o K (parts_of c o) (widths_into c o)) (made K (keys_at c o)) (ports_at c shape o m K e) b (λ q rows. refl) (λ P. made_all P K (keys_at c o))
 fields_given c o (kind.Remdup key last) shape m e b w = let K = kind.Remdup key last in passed c o (op_by o K (parts_of c o) (widths_into c o)) (made K (keys_at c o)) (ports_at c shape o m K e) b (λ q rows. refl) (λ P. made_all P K (keys_at c o))
 fields_given c o (kind.Group key hash results) shape m e b w = b.0
+fields_given c o (kind.InnerJoin key) shape m e b w = b.0
+fields_given c o (kind.LeftOuterJoin key) shape m e b w = b.0
+fields_given c o (kind.RightOuterJoin key) shape m e b w = b.0
+fields_given c o (kind.FullOuterJoin key) shape m e b w = b.0
+fields_given c o (kind.Lookup key missing) shape m e b w = b.0
 fields_given c o k shape m e b w = absurd b

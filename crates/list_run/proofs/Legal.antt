@@ -17,7 +17,6 @@ use Rattle.flow_graph.specs.FlowShape.{IsShape}
 use Rattle.flow_graph.specs.Operators.{Op, import, result}
 use Rattle.flow_graph.specs.Runs.{Lists, Runs, Gives, Delivers, FitsDegree, faults_on, slice}
 use Rattle.flow_derive.specs.LinkStates.{choice_at}
-use Rattle.flow_rules.specs.Exports.{input_of}
 use Rattle.flow_rules.specs.Verdicts.{node_at, out_at}
 use Rattle.flow_ops.specs.Kept.{if_between}
 use Rattle.list_run.specs.declared.held.Held.{Held}
@@ -75,12 +74,7 @@ kind_finds c nodes given o (kind.Import file schema delim fixed reject) op G sha
 kind_finds c nodes given o (kind.Export file delim fixed) op G shape m e b is long = refl
 kind_finds c nodes given o (kind.Dsread ds) op G shape m e b is long = absurd b
 kind_finds c nodes given o (kind.Dswrite ds) op G shape m e b is long = absurd b
-kind_finds c nodes given o (kind.InnerJoin key) op G shape m e b is long = absurd b
-kind_finds c nodes given o (kind.LeftOuterJoin key) op G shape m e b is long = absurd b
-kind_finds c nodes given o (kind.RightOuterJoin key) op G shape m e b is long = absurd b
-kind_finds c nodes given o (kind.FullOuterJoin key) op G shape m e b is long = absurd b
 kind_finds c nodes given o (kind.Merge key keepbad reject) op G shape m e b is long = absurd b
-kind_finds c nodes given o (kind.Lookup key missing) op G shape m e b is long = absurd b
 kind_finds c nodes given o (kind.Changecapture key values keepcopy) op G shape m e b is long = absurd b
 kind_finds c nodes given o (kind.Funnel sequence sort) op G shape m e b is long = absurd b
 kind_finds c nodes given o k op G shape m e b is long = by_finds c nodes o k op G is (degree_is c nodes o G (some_inputs c o k shape m e b tt) long)
@@ -97,12 +91,7 @@ kind_gives c nodes given o l (kind.Import file schema delim fixed reject) op G s
 kind_gives c nodes given o l (kind.Export file delim fixed) op G shape m e b is i long = absurd (subst (IsIn l) b i)
 kind_gives c nodes given o l (kind.Dsread ds) op G shape m e b is i long = absurd b
 kind_gives c nodes given o l (kind.Dswrite ds) op G shape m e b is i long = absurd b
-kind_gives c nodes given o l (kind.InnerJoin key) op G shape m e b is i long = absurd b
-kind_gives c nodes given o l (kind.LeftOuterJoin key) op G shape m e b is i long = absurd b
-kind_gives c nodes given o l (kind.RightOuterJoin key) op G shape m e b is i long = absurd b
-kind_gives c nodes given o l (kind.FullOuterJoin key) op G shape m e b is i long = absurd b
 kind_gives c nodes given o l (kind.Merge key keepbad reject) op G shape m e b is i long = absurd b
-kind_gives c nodes given o l (kind.Lookup key missing) op G shape m e b is i long = absurd b
 kind_gives c nodes given o l (kind.Changecapture key values keepcopy) op G shape m e b is i long = absurd b
 kind_gives c nodes given o l (kind.Funnel sequence sort) op G shape m e b is i long = absurd b
 kind_gives c nodes given o l k op G shape m e b is i long = by_gives c nodes o l k op G is (degree_is c nodes o G (some_inputs c o k shape m e b tt) long)
@@ -112,12 +101,7 @@ kind_degree c nodes given o (kind.Import file schema delim fixed reject) op b is
 kind_degree c nodes given o (kind.Export file delim fixed) op b is = subst (λ p. FitsDegree p (degree_at c nodes o)) (sym is.1) tt
 kind_degree c nodes given o (kind.Dsread ds) op b is = absurd b
 kind_degree c nodes given o (kind.Dswrite ds) op b is = absurd b
-kind_degree c nodes given o (kind.InnerJoin key) op b is = absurd b
-kind_degree c nodes given o (kind.LeftOuterJoin key) op b is = absurd b
-kind_degree c nodes given o (kind.RightOuterJoin key) op b is = absurd b
-kind_degree c nodes given o (kind.FullOuterJoin key) op b is = absurd b
 kind_degree c nodes given o (kind.Merge key keepbad reject) op b is = absurd b
-kind_degree c nodes given o (kind.Lookup key missing) op b is = absurd b
 kind_degree c nodes given o (kind.Changecapture key values keepcopy) op b is = absurd b
 kind_degree c nodes given o (kind.Funnel sequence sort) op b is = absurd b
 kind_degree c nodes given o k op b is = subst (λ p. FitsDegree p (degree_at c nodes o)) (sym is) (op_degree o k (parts_of c o) (widths_into c o) (degree_at c nodes o))

@@ -21,4 +21,5 @@ pub mod Summing
 pub mod Suiting
 pub mod Splitting
 pub mod Grouped
+pub mod Matched
 pub mod Permuted

@@ -1,5 +1,5 @@
 -- What is said of each row is kept on the way.
-use Rattle.std.proofs.Common.{ℕ, suc, ◌+◌, ◌%◌, ◌==◌, Bool, true, false, cond, sym, subst, List, [], ◌∷◌, map, Option, Some, None}
+use Rattle.std.proofs.Common.{ℕ, zero, suc, ◌+◌, ◌%◌, ◌==◌, Bool, true, false, cond, sym, subst, List, [], ◌∷◌, map, replicate, Option, Some, None}
 use Rattle.std.specs.List.{AllByRecursion, flat_map, range_with_len}
 use Rattle.streams.specs.Lists.{onto_run, runs_of}
 use Rattle.ds_schema.specs.declared.key.Key.{Key}
@@ -82,8 +82,14 @@ lanes_all P goes j p (rows ∷ lists) h = (lane_all P (goes p) j 0 rows h.0, lan
 dealt_all : (P : Row → Type 0) (goes : ℕ → ℕ → Row → ℕ) (n : ℕ) (sent : List (List Row)) → Each P sent → Each P (dealt goes n sent)
 dealt_all P goes n sent h = all_each (AllByRecursion P) (λ j. joined (lanes_to goes j 0 sent)) (λ j. joined_all P (lanes_to goes j 0 sent) (lanes_all P goes j 0 sent h)) (range_with_len 0 n)
 
+-- so many of one list
+pub all_copies : {X : Type 0} (P : X → Type 0) (x : X) → P x → (n : ℕ) → AllByRecursion P (replicate n x)
+all_copies P x h zero = tt
+all_copies P x h (suc n) = (h, all_copies P x h n)
+
 routed_all : (P : Row → Type 0) (m : Route) (n : ℕ) (sent : List (List Row)) → Each P sent → Each P (routed m n sent)
 routed_all P route.RoundRobin n sent h = dealt_all P (λ p t r. (p + t) % n) n sent h
+routed_all P route.Entire n sent h = all_copies (AllByRecursion P) (joined sent) (joined_all P sent h) n
 routed_all P (route.Hash K) n sent h = dealt_all P (λ p t r. place_number (place.Hash K) r n) n sent h
 routed_all P route.Any n sent h = (joined_all P sent h, tt)
 routed_all P route.Ordered n sent h = (joined_all P sent h, tt)

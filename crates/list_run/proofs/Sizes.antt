@@ -19,7 +19,8 @@ use Rattle.flow_ops.specs.Kept.{GivesFields}
 use Rattle.list_run.specs.Held.{inputs_of, sent_by, sent_from, sent_on, got_on}
 use Rattle.list_run.specs.Made.{degree_of, made_by, made_of, op_by}
 use Rattle.list_run.specs.Routed.{Joins, routed}
-use Rattle.list_run.specs.Runnable.{degree_at, first_into, widths_into, IsBuilt, IsRunnable}
+use Rattle.flow_rules.specs.Exports.{input_of}
+use Rattle.list_run.specs.Runnable.{degree_at, widths_into, IsBuilt, IsRunnable}
 use Rattle.list_run.specs.Turns.{lists_after, got_in, sent_in}
 use Rattle.list_run.proofs.Links.{in_from, in_into, from_in}
 use Rattle.list_run.proofs.Inputs.{some_inputs, some_member}
@@ -109,7 +110,7 @@ first_input got (i ∷ ins) m = refl
 
 -- as many partitions as the operator has
 pub degree_is : (c : Chart) (nodes o : ℕ) (got : ℕ → List (List Row)) → 0 < length (links_into c o) → ((i : ℕ) → IsIn i (links_into c o) → length (got i) ≡ degree_at c nodes o) → degree_of (inputs_of c o got) ≡ degree_at c nodes o
-degree_is c nodes o got some long = ap length (first_input got (links_into c o) some) ∙ long (first_into c o) (some_member (links_into c o) some)
+degree_is c nodes o got some long = ap length (first_input got (links_into c o) some) ∙ long (input_of c o) (some_member (links_into c o) some)
 
 made_fits : (c : Chart) (nodes : ℕ) (o l : ℕ) (k : OpKind) (got : ℕ → List (List Row)) → IsShape c → o < length c.flow.ops → (op_at c o).kind ≡ k → IsBuilt c o k → 0 < length (links_into c o) → GivesFields c o (op_by o k (parts_of c o) (widths_into c o)) → IsIn l (links_from c o) → AllCame c nodes o got →
     GivenFits c nodes o l (made_by o k (parts_of c o) (widths_into c o) (link_at c l).out (inputs_of c o got))

@@ -127,6 +127,11 @@ all_found (kind.Transform set reject) w faults = refl
 all_found (kind.Modify keep drop rename) w faults = refl
 all_found (kind.Switch on cases reject) w faults = refl
 all_found (kind.Group key hash results) w faults = refl
+all_found (kind.InnerJoin key) w faults = refl
+all_found (kind.LeftOuterJoin key) w faults = refl
+all_found (kind.RightOuterJoin key) w faults = refl
+all_found (kind.FullOuterJoin key) w faults = refl
+all_found (kind.Lookup key missing) w faults = refl
 all_found k w faults = absurd w
 
 -- the lists that a loop over the slices has next

@@ -22,7 +22,8 @@ use Rattle.list_run.specs.declared.held.Held.{Held}
 use Rattle.list_run.specs.Found.{Tallies, found_by}
 use Rattle.list_run.specs.Held.{CameFits, MaySend, Steps, found_at, inputs_of, sent_from, sent_on, got_on, waits}
 use Rattle.list_run.specs.Routed.{Joins, SuitsRoute}
-use Rattle.list_run.specs.Runnable.{degree_at, first_into, row_count, widths_into, IsExport, IsRunnable}
+use Rattle.flow_rules.specs.Exports.{IsExport, input_of}
+use Rattle.list_run.specs.Runnable.{degree_at, row_count, widths_into, IsRunnable}
 use Rattle.list_run.specs.Turns.{HadTurn, Stands, found_after, got_in, sent_in}
 use Rattle.list_run.proofs.Inputs.{ports_at, some_member, some_of_one}
 use Rattle.list_run.proofs.Links.{all_in, in_from, in_into}
@@ -120,7 +121,7 @@ pub came_fits : (c : Chart) (choices : List Choice) (nodes : ℕ) (given : List 
 came_fits c choices nodes given n rest held r m stands = λ l i.
     subst (λ (lists : List (List Row)). Each (FitsFields (get_or c.schemas l [])) lists) (sym (waits_for c choices nodes given n rest held r m stands l i)) (all_came c choices nodes given r (get_or c.order n 0) l i).1
 
-export_input : (c : Chart) (o : ℕ) (k : OpKind) → IsShape c → o < length c.flow.ops → (op_at c o).kind ≡ k → IsExport k → IsIn (first_into c o) (links_into c o)
+export_input : (c : Chart) (o : ℕ) (k : OpKind) → IsShape c → o < length c.flow.ops → (op_at c o).kind ≡ k → IsExport k → IsIn (input_of c o) (links_into c o)
 export_input c o (kind.Export file delim fixed) shape m e x = some_member (links_into c o) (some_of_one (length (links_into c o)) (ports_at c shape o m (kind.Export file delim fixed) e))
 export_input c o k shape m e x = absurd x
 
@@ -160,5 +161,5 @@ stands_next c choices nodes given n rest after held new r m b stands steps = rec
     kept p e (inl h) = steps.kept_sinks p (other p h) ∙ stands.sinks p h e
     kept p e (inr q) =
         let e' = subst (λ o. IsExport (op_at c o).kind) q e in
-        subst (λ o. get_or new.sinks.items o [] ≡ got_in c nodes given (first_into c o)) (sym q)
-        (steps.sink e' ∙ waits_for c choices nodes given n rest held r m stands (first_into c (get_or c.order n 0)) (export_input c (get_or c.order n 0) (op_at c (get_or c.order n 0)).kind r.shape b refl e'))
+        subst (λ o. get_or new.sinks.items o [] ≡ got_in c nodes given (input_of c o)) (sym q)
+        (steps.sink e' ∙ waits_for c choices nodes given n rest held r m stands (input_of c (get_or c.order n 0)) (export_input c (get_or c.order n 0) (op_at c (get_or c.order n 0)).kind r.shape b refl e'))

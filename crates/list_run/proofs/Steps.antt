@@ -21,7 +21,8 @@ use Rattle.list_run.specs.Found.{Grows, found_by}
 use Rattle.list_run.specs.Held.{HasRoom, MaySend, Puts, Moves, Steps, found_at, inputs_of, leaves, outputs, sent_by, sent_from, sent_on, got_on, made_at, waits, worked_at}
 use Rattle.list_run.specs.Made.{degree_of, made, made_by}
 use Rattle.list_run.specs.Routed.{Joins, SuitsRoute}
-use Rattle.list_run.specs.Runnable.{degree_at, first_into, row_count, widths_into, IsExport}
+use Rattle.flow_rules.specs.Exports.{IsExport, input_of}
+use Rattle.list_run.specs.Runnable.{degree_at, row_count, widths_into}
 use Rattle.list_run.proofs.Dealing.{map_same}
 use Rattle.list_run.proofs.Links.{from_in}
 use Rattle.list_run.proofs.Tallying.{grows_as, still}
@@ -69,10 +70,10 @@ work_sent c o l k held given known makes e =
 abbrev pub Passes : ℕ → OpKind → Type 0
 Passes o k = (parts : OpParts) (widths : List ℕ) (q : ℕ) (lists : List (List Row)) → made_by o k parts widths q (lists ∷ []) ≡ map (made k parts.keys) lists
 
-pub pass_sent : (c : Chart) (o l : ℕ) (k : OpKind) (held : Held) (given : ℕ → List Row) → (op_at c o).kind ≡ k → Makes o k → Passes o k → links_into c o ≡ first_into c o ∷ [] → (link_at c l).from ≡ o → sent_on c (waits held) given l ≡ made_at c o held
+pub pass_sent : (c : Chart) (o l : ℕ) (k : OpKind) (held : Held) (given : ℕ → List Row) → (op_at c o).kind ≡ k → Makes o k → Passes o k → links_into c o ≡ input_of c o ∷ [] → (link_at c l).from ≡ o → sent_on c (waits held) given l ≡ made_at c o held
 pass_sent c o l k held given known makes passes one e =
     let parts = parts_of c o in
-    let lists = waits held (first_into c o) in
+    let lists = waits held (input_of c o) in
     work_sent c o l k held given known makes e
     ∙ ap (λ k. made_by o k parts (widths_into c o) (link_at c l).out (inputs_of c o (waits held))) known
     ∙ ap (λ ins. made_by o k parts (widths_into c o) (link_at c l).out (map (waits held) ins)) one
@@ -156,7 +157,7 @@ step_moves c nodes o before old new sent faults is found inner f = record {
 }
 
 -- a copy, a tsort or a remdup
-pub passes : (c : Chart) (nodes o : ℕ) (before : List (List Row)) (old new : Held) (k : OpKind) → (op_at c o).kind ≡ k → Makes o k → Passes o k → Quiet o k → (IsExport k → ⊥) → links_into c o ≡ first_into c o ∷ [] →
+pub passes : (c : Chart) (nodes o : ℕ) (before : List (List Row)) (old new : Held) (k : OpKind) → (op_at c o).kind ≡ k → Makes o k → Passes o k → Quiet o k → (IsExport k → ⊥) → links_into c o ≡ input_of c o ∷ [] →
     Moves c nodes o (outputs c o) (λ l. made_at c o old) [] old new → Steps c nodes o before before old new
 passes c nodes o before old new k e makes passed quiet inner one f =
     step_moves c nodes o before old new (λ l. made_at c o old) [] (λ l from. pass_sent c o l k old (λ i. get_or before i []) e makes passed one from)
@@ -167,18 +168,18 @@ passes c nodes o before old new k e makes passed quiet inner one f =
 pub works : (c : Chart) (nodes o : ℕ) (before : List (List Row)) (old new : Held) (k : OpKind) → (op_at c o).kind ≡ k → Makes o k → (IsExport k → ⊥) → Moves c nodes o (outputs c o) (worked_at c o old) (found_at c o (waits old)) old new → Steps c nodes o before before old new
 works c nodes o before old new k e makes inner f = step_moves c nodes o before old new (worked_at c o old) (found_at c o (waits old)) (λ l from. work_sent c o l k old (λ i. get_or before i []) e makes from) refl (λ x. inner (subst IsExport e x)) f
 
-pub step_export : (c : Chart) (nodes o : ℕ) (before : List (List Row)) (old new : Held) → HasRoom c old → o < length c.flow.ops → links_from c o ≡ [] → Quiet o (op_at c o).kind → (link_at c (first_into c o)).to ≡ o →
-    new.waiting.items ≡ set old.waiting.items (first_into c o) [] → new.counts.items ≡ old.counts.items → new.sinks.items ≡ set old.sinks.items o (waits old (first_into c o)) → new.tally ≡ old.tally → Steps c nodes o before before old new
+pub step_export : (c : Chart) (nodes o : ℕ) (before : List (List Row)) (old new : Held) → HasRoom c old → o < length c.flow.ops → links_from c o ≡ [] → Quiet o (op_at c o).kind → (link_at c (input_of c o)).to ≡ o →
+    new.waiting.items ≡ set old.waiting.items (input_of c o) [] → new.counts.items ≡ old.counts.items → new.sinks.items ≡ set old.sinks.items o (waits old (input_of c o)) → new.tally ≡ old.tally → Steps c nodes o before before old new
 step_export c nodes o before old new room there none quiet input w n s t = record {
-  room = record { waiting = ap length w ∙ length-set old.waiting.items (first_into c o) [] ∙ room.waiting; counts = ap length n ∙ room.counts; sinks = ap length s ∙ length-set old.sinks.items o (waits old (first_into c o)) ∙ room.sinks };
+  room = record { waiting = ap length w ∙ length-set old.waiting.items (input_of c o) [] ∙ room.waiting; counts = ap length n ∙ room.counts; sinks = ap length s ∙ length-set old.sinks.items o (waits old (input_of c o)) ∙ room.sinks };
   given = refl;
   waiting = λ l m e. absurd (never l m e);
   counts = λ l m e. absurd (never l m e);
   kept = λ l m e k. ap (λ ls. get_or ls l []) w ∙ get_or-set_other old.waiting.items (input_of c o) l [] [] (λ f. k (ap (λ i. (link_at c i).to) f ∙ input));
   kept_counts = λ l m e. ap (λ ls. get_or ls l 0) n;
   kept_given = λ l m e. refl;
-  sink = λ e. ap (λ ls. get_or ls o []) s ∙ get_or-set_same old.sinks.items o (waits old (first_into c o)) [] (subst (λ k. o < k) (sym room.sinks) there);
-  kept_sinks = λ p e. ap (λ ls. get_or ls p []) s ∙ get_or-set_other old.sinks.items o p (waits old (first_into c o)) [] e;
+  sink = λ e. ap (λ ls. get_or ls o []) s ∙ get_or-set_same old.sinks.items o (waits old (input_of c o)) [] (subst (λ k. o < k) (sym room.sinks) there);
+  kept_sinks = λ p e. ap (λ ls. get_or ls p []) s ∙ get_or-set_other old.sinks.items o p (waits old (input_of c o)) [] e;
   found = grows_as old.tally new.tally [] (found_at c o (waits old)) (quiet (parts_of c o) (widths_into c o) (inputs_of c o (waits old))) (still old.tally new.tally t);
 }
   where

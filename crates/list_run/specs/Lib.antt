@@ -3,6 +3,7 @@ pub mod Fed
 pub mod Found
 pub mod Grouped
 pub mod Made
+pub mod Matched
 pub mod Routed
 pub mod Runnable
 pub mod Held

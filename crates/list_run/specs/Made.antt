@@ -3,6 +3,7 @@ use Rattle.std.specs.Prelude.{ℕ, List, [], ◌∷◌, length, map, get_or}
 use Rattle.std.specs.List.{range_with_len}
 use Rattle.ds_schema.specs.declared.key.Key.{Key}
 use Rattle.ds_schema.specs.Rows.{cols, ways}
+use Rattle.op_base.specs.declared.missing.Missing.{Missing}
 use Rattle.op_base.specs.Columns.{Row}
 use Rattle.op_base.specs.Feeds.{by_runs}
 use Rattle.op_base.specs.Keyed.{arranged, get_keys}
@@ -24,8 +25,12 @@ made (kind.Tsort key) keys rows = arranged (get_keys keys 0) rows
 made (kind.Remdup key last) keys rows = by_runs (ways (get_keys keys 0)) (cols (get_keys keys 0) ∷ []) (λ v same. one_row last (input 0 same)) (rows ∷ [])
 made k keys rows = rows
 
+-- a join and a lookup of inputs of these widths
 abbrev pub joined_by : JoinKind → OpParts → List ℕ → Op
 joined_by k parts widths = join (join_of k parts (get_or widths 0 0) (get_or widths 1 0))
+
+abbrev pub looked_by : ℕ → Missing → OpParts → List ℕ → Op
+looked_by o missing parts widths = lookup (lookup_of o missing parts (get_or widths 0 0) (get_or widths 1 0))
 
 -- which operator the one with the number o is, by its kind, its parts and the widths of its inputs; a kind that isn't run here counts as a copy
 abbrev pub op_by : ℕ → OpKind → OpParts → List ℕ → Op
@@ -40,7 +45,7 @@ op_by o (kind.InnerJoin key) parts widths = joined_by Inner parts widths
 op_by o (kind.LeftOuterJoin key) parts widths = joined_by Left parts widths
 op_by o (kind.RightOuterJoin key) parts widths = joined_by Right parts widths
 op_by o (kind.FullOuterJoin key) parts widths = joined_by Full parts widths
-op_by o (kind.Lookup key missing) parts widths = lookup (lookup_of o missing parts (get_or widths 0 0) (get_or widths 1 0))
+op_by o (kind.Lookup key missing) parts widths = looked_by o missing parts widths
 op_by o k parts widths = by_row copy_rule
 
 -- what it makes for output q of the lists of a partition, by port

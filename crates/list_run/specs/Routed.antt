@@ -1,5 +1,5 @@
 -- What comes at a consumer's partitions, as this run brings it: producer by producer where a route leaves that open.
-use Rattle.std.specs.Prelude.{◌≡◌, ℕ, ◌+◌, ◌%◌, Bool, true, false, List, [], ◌∷◌, map, All, ⊤}
+use Rattle.std.specs.Prelude.{◌≡◌, ℕ, ◌+◌, ◌%◌, Bool, true, false, List, [], ◌∷◌, map, replicate, All, ⊤}
 use Rattle.ds_value.specs.Canonical.{IsShort}
 use Rattle.ds_schema.specs.Rows.{InWidth}
 use Rattle.ds_place.specs.declared.place.Place.{Place}
@@ -14,12 +14,13 @@ use Rattle.ds_place.specs.Places.{place_number}
 use Rattle.flow_graph.specs.Runs.{arranged_if}
 use Rattle.list_run.specs.Dealt.{dealt}
 
--- the routes that are run, between a number of producers and one of consumers: same joins equal numbers, and a collector has one consumer
+-- the routes that are run, between a number of producers and one of consumers: same joins equal numbers, entire leads into a parallel operator, and a collector has one consumer
 abbrev pub Joins : Bool → Route → ℕ → ℕ → Type 0
 Joins seq route.Same producers consumers = producers ≡ consumers
 Joins false route.RoundRobin producers consumers = ⊤
 Joins true route.RoundRobin producers consumers = ⊥
-Joins seq route.Entire producers consumers = ⊥
+Joins false route.Entire producers consumers = ⊤
+Joins true route.Entire producers consumers = ⊥
 Joins seq (route.Hash K) producers consumers = ⊤
 Joins seq (route.Modulus c) producers consumers = ⊥
 Joins seq route.Any producers consumers = consumers ≡ 1
@@ -37,6 +38,7 @@ SuitsPlace place r = All (InWidth r) (columns_read place) × HoldsWhole place r 
 
 abbrev pub routed : Route → ℕ → List (List Row) → List (List Row)
 routed route.RoundRobin n sent = dealt (λ p t r. (p + t) % n) n sent
+routed route.Entire n sent = replicate n (joined sent)
 routed (route.Hash K) n sent = dealt (λ p t r. place_number (place.Hash K) r n) n sent
 routed route.Any n sent = joined sent ∷ []
 routed route.Ordered n sent = joined sent ∷ []

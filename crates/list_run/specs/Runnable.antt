@@ -1,7 +1,8 @@
 -- The flows that are run here, the operators of such a flow, and what a run leaves.
-use Rattle.std.specs.Prelude.{◌≡◌, ℕ, ◌<◌, ◌-◌, ◌^◌, min, Bool, true, false, cond, List, [], length, map, get_or, All, ⊤, None}
+use Rattle.std.specs.Prelude.{◌≡◌, ℕ, ◌<◌, ◌-◌, ◌^◌, min, Bool, true, cond, List, [], length, map, get_or, All, None}
 use Rattle.std.specs.List.{AllByRecursion, flat_map, range_with_len}
 use Rattle.std.specs.List.Sorted.{IsPermutation}
+use Rattle.ds_schema.specs.Rows.{ways}
 use Rattle.op_base.specs.declared.fault.Fault.{Fault}
 use Rattle.op_base.specs.Columns.{Row, IsIn}
 use Rattle.op_base.specs.Emits.{counted, least_of}
@@ -9,6 +10,7 @@ use Rattle.op_base.specs.Keyed.{get_keys}
 use Rattle.op_base.specs.Lists.{joined}
 use Rattle.op_base.specs.Meanings.{Line}
 use Rattle.op_base.specs.RowOperators.{copy_rule, sink_rule}
+use Rattle.op_join.specs.declared.kind.JoinKind.TheVariants.{Inner, Left, Right, Full}
 use Rattle.flow_graph.specs.declared.op_kind.OpKind.{OpKind}
 use Rattle.flow_graph.specs.declared.op_kind.OpKind.TheVariants as kind
 use Rattle.flow_graph.specs.declared.route.Choice.{Choice}
@@ -24,20 +26,22 @@ use Rattle.flow_rules.specs.Verdicts.{nodes_of}
 use Rattle.flow_ops.specs.Keyed.{aggs_of, group_of}
 use Rattle.flow_ops.specs.Kept.{GivesFields, SumsFit, if_between}
 use Rattle.list_run.specs.declared.ran.Ran.{Ran}
+use Rattle.list_run.specs.Made.{joined_by, looked_by}
 use Rattle.list_run.specs.Routed.{Joins}
 
 -- a sequential operator has one partition, another has as many as there are nodes
 abbrev pub degree_at : Chart → ℕ → ℕ → ℕ
 degree_at c nodes o = cond (is_seq (op_at c o).mark) 1 nodes
 
-abbrev pub first_into : Chart → ℕ → ℕ
-first_into c o = get_or (links_into c o) 0 0
-
 -- the widths of the links into an operator, by port
 abbrev pub widths_into : Chart → ℕ → List ℕ
 widths_into c o = map (width_at c) (links_into c o)
 
--- import, copy, filter, transform, modify, switch, tsort, remdup, group and export are run
+-- the keys of two inputs ascend and descend alike
+abbrev pub SameWays : Chart → ℕ → Type 0
+SameWays c o = ways (get_keys (keys_at c o) 0) ≡ ways (get_keys (keys_at c o) 1)
+
+-- import, copy, filter, transform, modify, switch, tsort, remdup, group, the joins, lookup and export are run
 abbrev pub IsBuilt : Chart → ℕ → OpKind → Type 0
 IsBuilt c o (kind.Import file schema delim fixed reject) = is_seq (op_at c o).mark ≡ true
 IsBuilt c o (kind.Export file delim fixed) = links_from c o ≡ []
@@ -48,7 +52,12 @@ IsBuilt c o (kind.Modify keep drop rename) = KeepsFields c o
 IsBuilt c o (kind.Switch on cases reject) = KeepsFields c o
 IsBuilt c o (kind.Tsort key) = PassesFields c o
 IsBuilt c o (kind.Remdup key last) = PassesFields c o
-IsBuilt c o (kind.Group key hash results) = GivesFields c o (group (group_of o hash results (parts_of c o))) × AllByRecursion (SumsFit (first_fields c o)) (aggs_of results (cols_at c o)) × (hash ≡ false)
+IsBuilt c o (kind.Group key hash results) = GivesFields c o (group (group_of o hash results (parts_of c o))) × AllByRecursion (SumsFit (first_fields c o)) (aggs_of results (cols_at c o))
+IsBuilt c o (kind.InnerJoin key) = GivesFields c o (joined_by Inner (parts_of c o) (widths_into c o)) × SameWays c o
+IsBuilt c o (kind.LeftOuterJoin key) = GivesFields c o (joined_by Left (parts_of c o) (widths_into c o)) × SameWays c o
+IsBuilt c o (kind.RightOuterJoin key) = GivesFields c o (joined_by Right (parts_of c o) (widths_into c o)) × SameWays c o
+IsBuilt c o (kind.FullOuterJoin key) = GivesFields c o (joined_by Full (parts_of c o) (widths_into c o)) × SameWays c o
+IsBuilt c o (kind.Lookup key missing) = GivesFields c o (looked_by o missing (parts_of c o) (widths_into c o)) × (length (get_keys (keys_at c o) 0) ≡ length (get_keys (keys_at c o) 1))
 IsBuilt c o k = ⊥
 
 -- a flow with its choices, and by link the rows that imports put there
@@ -80,6 +89,11 @@ OpIs c sources o op (kind.Switch on cases reject) = op ≡ by_row (row_rule o (k
 OpIs c sources o op (kind.Tsort key) = op ≡ tsort (get_keys (keys_at c o) 0)
 OpIs c sources o op (kind.Remdup key last) = op ≡ remdup last (get_keys (keys_at c o) 0)
 OpIs c sources o op (kind.Group key hash results) = op ≡ group (group_of o hash results (parts_of c o))
+OpIs c sources o op (kind.InnerJoin key) = op ≡ joined_by Inner (parts_of c o) (widths_into c o)
+OpIs c sources o op (kind.LeftOuterJoin key) = op ≡ joined_by Left (parts_of c o) (widths_into c o)
+OpIs c sources o op (kind.RightOuterJoin key) = op ≡ joined_by Right (parts_of c o) (widths_into c o)
+OpIs c sources o op (kind.FullOuterJoin key) = op ≡ joined_by Full (parts_of c o) (widths_into c o)
+OpIs c sources o op (kind.Lookup key missing) = op ≡ looked_by o missing (parts_of c o) (widths_into c o)
 OpIs c sources o op k = ⊥
 
 abbrev pub OpsAre : Chart → List (List Row) → (ℕ → Op) → Type 0

@@ -6,7 +6,7 @@ ghost use Rattle.op_base.specs.Lists.{joined};
 ghost use Rattle.flow_graph.specs.Runs.{Arrives, arranged_if};
 ghost use Rattle.list_run.specs.Routed.{Joins, SuitsRoute, routed, delivered};
 
-use crate::lanes::{Partitions, by_hash, join, round_robin};
+use crate::lanes::{Partitions, by_hash, join, round_robin, to_each};
 use crate::work::sort_rows;
 use ds_schema::{KeyList, Row};
 use ds_value::{Items, NoMemory};
@@ -45,8 +45,9 @@ fn bring(
         Route::Same => Ok(sent),
         Route::RoundRobin => round_robin(alloc, sent, count),
         Route::Hash(columns) => by_hash(alloc, columns, sent, count),
+        Route::Entire => to_each(alloc, sent, count),
         Route::Any | Route::Ordered => collect(alloc, sent),
-        Route::Entire | Route::Modulus(_) | Route::Merge(_) => unreachable!(),
+        Route::Modulus(_) | Route::Merge(_) => unreachable!(),
     }
 }
 

@@ -1,6 +1,6 @@
 //! Groups of the rows of a partition.
 
-ghost use Rattle.std.specs.Prelude.{◌≡◌, false, IfOk};
+ghost use Rattle.std.specs.Prelude.{◌≡◌, false, true, IfOk};
 ghost use Rattle.op_group.specs.Results.{grouping};
 ghost use Rattle.flow_ops.specs.Keyed.{aggs_of};
 ghost use Rattle.list_run.specs.Grouped.{Groups, agg_on};
@@ -10,7 +10,7 @@ use ds_schema::{KeyList, Row};
 use ds_value::{Items, NoMemory};
 use flow_graph::AggSpec;
 use op_base::{Emit, run_list};
-use op_group::{Agg, group_sorted};
+use op_group::{Agg, group_hashed, group_sorted};
 use std::alloc::Global;
 
 fn agg_on(spec: &AggSpec, col: u32) -> Agg
@@ -50,8 +50,7 @@ pub(crate) fn aggs_of(
     Ok(aggs)
 }
 
-/// What a group emits for the rows of a partition, which are in the order of its keys.
-pub(crate) fn run_group(
+fn run_sorted(
     alloc: Global,
     keys: KeyList,
     aggs: Vec<Agg>,
@@ -63,4 +62,37 @@ pub(crate) fn run_group(
     let mut op = group_sorted(alloc, keys, aggs)?;
     let emit = run_list(alloc, &mut op, rows)?;
     Ok(emit)
+}
+
+fn run_hashed(
+    alloc: Global,
+    keys: KeyList,
+    aggs: Vec<Agg>,
+    rows: Vec<Row>,
+) -> Result<Emit, NoMemory>
+    requires { SuitsGroup keys aggs.items rows.items }
+    ensures { IfOk result (λ emit. Groups (grouping keys true aggs.items) rows.items emit) }
+{
+    let mut op = group_hashed(alloc, keys, aggs)?;
+    let emit = run_list(alloc, &mut op, rows)?;
+    Ok(emit)
+}
+
+/// What a group emits for the rows of a partition: run by run, or with `hash` key value by key
+/// value.
+pub(crate) fn run_group(
+    alloc: Global,
+    keys: KeyList,
+    aggs: Vec<Agg>,
+    hash: bool,
+    rows: Vec<Row>,
+) -> Result<Emit, NoMemory>
+    requires { SuitsGroup keys aggs.items rows.items }
+    ensures { IfOk result (λ emit. Groups (grouping keys hash aggs.items) rows.items emit) }
+{
+    if hash {
+        run_hashed(alloc, keys, aggs, rows)
+    } else {
+        run_sorted(alloc, keys, aggs, rows)
+    }
 }

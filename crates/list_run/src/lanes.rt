@@ -57,6 +57,20 @@ pub(crate) fn join(alloc: Global, sent: Partitions) -> Result<Items<Row>, NoMemo
     Ok(all)
 }
 
+/// To each of some partitions all rows.
+pub(crate) fn to_each(alloc: Global, sent: Partitions, count: u32) -> Result<Partitions, NoMemory>
+    requires { 0 < count }
+    ensures { IfOk result (λ got. got ≡ replicate count (joined sent)) }
+{
+    let rows = join(alloc, sent)?;
+    let mut got = Items::new(alloc);
+    for _ in 1..count {
+        got.push(copy_rows(alloc, &rows)?)?;
+    }
+    got.push(rows)?;
+    Ok(got)
+}
+
 /// So many lists without members.
 pub(crate) fn empty_lists<T: Drop>(alloc: Global, count: usize) -> Result<Vec<Items<T>>, NoMemory>
     ensures { IfOk result (λ lists. lists.items ≡ replicate count []) }

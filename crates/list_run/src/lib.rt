@@ -7,6 +7,7 @@ mod emitting;
 mod grouping;
 mod held;
 mod lanes;
+mod matching;
 mod numbering;
 mod partitions;
 mod ran;

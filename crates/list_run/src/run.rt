@@ -8,7 +8,8 @@ ghost use Rattle.flow_derive.specs.LinkStates.{choice_at};
 ghost use Rattle.list_run.specs.Found.{Tallies};
 ghost use Rattle.list_run.specs.Held.{CameFits, HasRoom, MaySend, Moves, Puts, Steps, found_at, inputs_of, leaves, leaves_but, made_at, out_on, outputs, place_on, sent_on, waits, worked_at};
 ghost use Rattle.list_run.specs.Routed.{Joins, SuitsRoute};
-ghost use Rattle.list_run.specs.Runnable.{CanRun, IsBuilt, IsRunOf, IsRunnable, OpsAre, degree_at, first_into, row_count, widths_into};
+ghost use Rattle.flow_rules.specs.Exports.{input_of};
+ghost use Rattle.list_run.specs.Runnable.{CanRun, IsBuilt, IsRunOf, IsRunnable, OpsAre, degree_at, row_count, widths_into};
 ghost use Rattle.list_run.specs.Turns.{Stands};
 ghost use Rattle.list_run.specs.Worked.{IsWorked};
 ghost use Rattle.flow_graph.specs.Operators.{Op};
@@ -331,7 +332,7 @@ fn pass_on(
     requires chosen { choices.now ≡ map (choice_at shaped.now) (all_links shaped.now) }
     requires some { 0 < nodes }
     requires room { HasRoom shaped.now held.old }
-    requires input { (link_at shaped.now (first_into shaped.now op)).to ≡ op }
+    requires input { (link_at shaped.now (input_of shaped.now op)).to ≡ op }
     requires may { MaySend shaped.now nodes op (λ l. made_at shaped.now op held.old) }
     ensures { OnOk result (Moves shaped.now nodes op (outputs shaped.now op) (λ l. made_at shaped.now op held.old) [] held.old held.new) }
 {
@@ -409,7 +410,12 @@ fn run_operator(
         | OpKind::Transform { .. }
         | OpKind::Modify { .. }
         | OpKind::Switch { .. }
-        | OpKind::Group { .. } => {
+        | OpKind::Group { .. }
+        | OpKind::InnerJoin { .. }
+        | OpKind::LeftOuterJoin { .. }
+        | OpKind::RightOuterJoin { .. }
+        | OpKind::FullOuterJoin { .. }
+        | OpKind::Lookup { .. } => {
             work_on(alloc, shaped, choices, nodes, op, held)?;
             Ok(())
         }

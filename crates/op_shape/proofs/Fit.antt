@@ -1,13 +1,11 @@
 -- The parts of an operator fit it where nothing is wrong.
-use Rattle.std.proofs.Common.{◌≡◌, ◌≤◌, ◌<◌, ◌++◌, ◌∷◌, [], ℕ, zero, suc, List, Bool, true, false, Option, None, refl, sym, ap, subst, ◌∙◌, arith, length, map}
+use Rattle.std.proofs.Common.{◌≡◌, ◌≤◌, ◌<◌, ◌++◌, ◌∷◌, [], ℕ, List, Bool, true, false, Option, None, refl, sym, ap, subst, ◌∙◌, arith, length, map}
 use Rattle.std.specs.List.{AllByRecursion}
 use Rattle.std.proofs.lemmas.List.{length-map}
-use Rattle.ds_value.specs.Kinds.{IsKind}
 use Rattle.ds_schema.specs.declared.schema.Field.{Field}
 use Rattle.ds_schema.specs.Schemas.{IsField}
 use Rattle.ds_expr.specs.Typed.{TypedTree}
 use Rattle.op_base.specs.Columns.{Lies, all_columns}
-use Rattle.op_row.specs.declared.setting.Set.{Set}
 use Rattle.op_row.specs.Expressed.{AreSets, AreTargets, IsSet, input_fields, targets}
 use Rattle.flow_graph.specs.RowRules.{ExprsFit, sets_of}
 use Rattle.flow_graph.specs.declared.op_kind.OpKind.{OpKind}
@@ -15,17 +13,17 @@ use Rattle.flow_graph.specs.declared.op_kind.OpKind.TheVariants as kind
 use Rattle.flow_graph.specs.declared.op_kind.SetSpec.{SetSpec}
 use Rattle.op_shape.specs.declared.fault.ShapeWhy.{ShapeWhy}
 use Rattle.op_shape.specs.declared.fault.ShapeWhy.TheVariants as why
-use Rattle.op_shape.specs.Causes.{cause_if, first_cause}
+use Rattle.op_shape.specs.Causes.{first_cause}
 use Rattle.op_shape.specs.Columns.{columns_cause, kept_columns, modified_fields, set_columns, set_fields, set_names, sets_cause, stand_twice}
 use Rattle.op_shape.specs.Exprs.{expr_cause, expr_over, is_set, is_test, is_whole, set_causes}
 use Rattle.op_shape.specs.Naming.{has_columns}
-use Rattle.op_shape.specs.Options.{IsKnown, OptionsStand, first_fields, option_causes, output_causes, operator_columns, operator_parts, renames_cause}
+use Rattle.op_shape.specs.Options.{IsKnown, OptionsStand, first_fields, option_causes, output_causes, operator_parts, renames_cause}
 use Rattle.op_shape.specs.Widths.{fields_cause}
 use Rattle.op_shape.proofs.Firsts.{none_both, none_head}
 use Rattle.op_shape.proofs.Held.{held, unheld}
 use Rattle.op_shape.proofs.Keeping.{kept_lie, modified_length}
 use Rattle.op_shape.proofs.Making.{narrow}
-use Rattle.op_shape.proofs.Putting.{sets_lie, targets_stand}
+use Rattle.op_shape.proofs.Putting.{targets_stand}
 use Rattle.op_shape.proofs.Typing.{truth_is, typed_over, whole_is}
 
 -- a switch has few cases

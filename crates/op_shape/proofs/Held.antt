@@ -1,12 +1,11 @@
 -- Names of an operator name columns of its input.
-use Rattle.std.proofs.Common.{◌≡◌, ◌≤◌, ◌<◌, ◌+◌, ◌++◌, ◌∷◌, [], ◌||◌, ◌&&◌, not, ℕ, zero, suc, List, Bool, true, false, Option, None, cond, refl, arith, length, get_or, subst}
+use Rattle.std.proofs.Common.{◌≡◌, ◌<◌, ◌+◌, ◌++◌, ◌∷◌, [], ◌||◌, ◌&&◌, not, ℕ, zero, suc, List, Bool, true, false, Option, None, cond, refl, arith, length, get_or, subst}
 use Rattle.std.specs.List.{AllByRecursion}
 use Rattle.std.proofs.lemmas.Bool.{and_parts}
 use Rattle.op_base.proofs.ColumnLaws.{in_range}
 use Rattle.op_base.specs.Columns.{IsIn, Lies, all_columns}
 use Rattle.op_base.specs.Keyed.{get_keys}
 use Rattle.ds_schema.specs.declared.schema.Field.{Field}
-use Rattle.ds_schema.specs.declared.key.Key.{Key}
 use Rattle.ds_schema.specs.Rows.{cols, KeysDiffer}
 use Rattle.flow_graph.specs.declared.op_kind.OpKind.{OpKind}
 use Rattle.flow_graph.specs.declared.op_kind.OpKind.TheVariants as kind

@@ -1,7 +1,7 @@
 -- The fields of groups, joins and lookups are fields, and the columns of a group's results are columns of its input.
-use Rattle.std.proofs.Common.{◌≡◌, ◌≤◌, ◌<◌, ◌+◌, ◌++◌, ◌∷◌, [], ◌&&◌, not, ℕ, List, Bool, true, false, None, Option, Some, refl, arith, length, map, nat_le, inl, inr}
-use Rattle.std.specs.List.{AllByRecursion, filter}
-use Rattle.std.proofs.lemmas.Bool.{and_parts, leb-true}
+use Rattle.std.proofs.Common.{◌≡◌, ◌<◌, ◌++◌, ◌∷◌, [], not, ℕ, List, Bool, true, None, refl, arith, length, map, inr}
+use Rattle.std.specs.List.{AllByRecursion}
+use Rattle.std.proofs.lemmas.Bool.{and_parts}
 use Rattle.ds_value.specs.Kinds.{IsKind}
 use Rattle.ds_value.specs.declared.kind.Kind.{Kind}
 use Rattle.ds_value.specs.declared.kind.Kind.TheVariants as data_kind
@@ -13,7 +13,6 @@ use Rattle.op_base.specs.declared.missing.Missing.{Missing}
 use Rattle.op_base.proofs.All.{all_append}
 use Rattle.flow_graph.specs.declared.op_kind.AggSpec.{AggSpec}
 use Rattle.flow_graph.specs.declared.op_kind.AggSpec.TheVariants as agg
-use Rattle.op_shape.specs.declared.fault.ShapeWhy.{ShapeWhy}
 use Rattle.op_shape.specs.declared.fault.ShapeWhy.TheVariants as why
 use Rattle.op_shape.specs.Causes.{cause_if, first_cause}
 use Rattle.op_shape.specs.Columns.{field_at, no_field}
@@ -22,7 +21,7 @@ use Rattle.op_shape.specs.Naming.{column, columns, has_column, has_keys, key_col
 use Rattle.op_shape.specs.Options.{key_cause}
 use Rattle.op_shape.specs.Widths.{fields_cause}
 use Rattle.op_shape.proofs.Firsts.{none_both, none_head}
-use Rattle.op_shape.proofs.Held.{AreBoth, are_both, column_in, column_within, held}
+use Rattle.op_shape.proofs.Held.{AreBoth, column_in, column_within, held}
 use Rattle.op_shape.proofs.Keeping.{all_passing, range_within}
 use Rattle.op_shape.proofs.Making.{at_each}
 

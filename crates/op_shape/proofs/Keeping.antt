@@ -1,14 +1,13 @@
 -- The columns that a modify keeps are columns of its input.
-use Rattle.std.proofs.Common.{◌≡◌, ◌≤◌, ◌<◌, ◌+◌, ◌∷◌, ◌++◌, [], not, ℕ, zero, suc, List, Bool, true, false, cond, refl, sym, ap, ◌∙◌, arith, length, map, get_or, nat_le}
+use Rattle.std.proofs.Common.{◌≡◌, ◌≤◌, ◌<◌, ◌+◌, ◌∷◌, ◌++◌, [], not, ℕ, zero, suc, List, Bool, true, false, cond, sym, ap, ◌∙◌, arith, length, get_or}
 use Rattle.std.specs.List.{AllByRecursion, filter, range_with_len}
 use Rattle.std.proofs.lemmas.List.{get_or_read, length-map}
 use Rattle.std.proofs.lemmas.List.Elements.{filter-append}
 use Rattle.op_base.specs.Columns.{IsIn, Lies, all_columns}
-use Rattle.op_base.proofs.ColumnLaws.{in_range, lies_self}
+use Rattle.op_base.proofs.ColumnLaws.{lies_self}
 use Rattle.ds_schema.specs.declared.schema.Field.{Field}
-use Rattle.ds_schema.specs.Schemas.{IsField, IsFieldName}
-use Rattle.op_shape.specs.Columns.{is_among, field_at, left_columns, no_field, kept_columns, kept_fields, new_name, renamed, modified_fields}
-use Rattle.op_shape.specs.Naming.{has_columns, columns}
+use Rattle.op_shape.specs.Columns.{is_among, field_at, no_field, kept_columns, kept_fields, renamed, modified_fields}
+use Rattle.op_shape.specs.Naming.{has_columns}
 use Rattle.op_shape.proofs.Held.{names_lie, names_within}
 
 passing_by : {X : Type 0} (P : X → Type 0) (b : Bool) (x : X) (ys : List X) → P x → AllByRecursion P ys → AllByRecursion P (cond b (x ∷ ys) ys)

@@ -1,5 +1,5 @@
 -- Fields at which nothing is wrong are a schema.
-use Rattle.std.proofs.Common.{◌≡◌, ◌≤◌, ◌<◌, ◌∷◌, [], ◌||◌, ◌&&◌, not, ℕ, zero, suc, List, Bool, true, false, None, cond, refl, sym, arith, length, map, get_or, nat_le}
+use Rattle.std.proofs.Common.{◌≡◌, ◌≤◌, ◌<◌, ◌∷◌, [], not, ℕ, zero, suc, List, Bool, true, false, None, cond, sym, arith, length, map, get_or, nat_le}
 use Rattle.std.specs.List.{AllByRecursion}
 use Rattle.std.specs.Str.{bytes_eq}
 use Rattle.std.proofs.lemmas.Bool.{and_parts, leb-true, or_parts}
@@ -9,9 +9,9 @@ use Rattle.ds_schema.specs.Schemas.{IsField, IsFieldName, IsSchema, AreDistinct}
 use Rattle.flow_graph.specs.declared.op_kind.SetSpec.{SetSpec}
 use Rattle.op_shape.specs.declared.fault.ShapeWhy.TheVariants as why
 use Rattle.op_shape.specs.Causes.{cause_if}
-use Rattle.op_shape.specs.Columns.{field_at, kept_columns, kept_fields, new_name, renamed, modified_fields, put_field, set_fields}
+use Rattle.op_shape.specs.Columns.{field_at, kept_columns, new_name, renamed, modified_fields, put_field, set_fields}
 use Rattle.op_shape.specs.Naming.{has_column, has_columns}
-use Rattle.op_shape.specs.Widths.{fields_cause, has_double, is_narrow, widest_row}
+use Rattle.op_shape.specs.Widths.{fields_cause, has_double, is_narrow}
 use Rattle.op_shape.proofs.Firsts.{none_head}
 use Rattle.op_shape.proofs.Held.{held, unheld}
 use Rattle.op_shape.proofs.Keeping.{kept_within}

@@ -1,5 +1,5 @@
 -- Fields that are set stand in their places or behind the last, and keep the columns of the others.
-use Rattle.std.proofs.Common.{◌≡◌, ◌≤◌, ◌<◌, ◌+◌, ◌++◌, ◌∷◌, [], ◌||◌, ◌==◌, not, ℕ, suc, List, Bool, true, false, cond, refl, sym, ap, subst, ◌∙◌, arith, length, set, get_or, drop, length-set, length-append, inl, inr}
+use Rattle.std.proofs.Common.{◌≡◌, ◌≤◌, ◌<◌, ◌+◌, ◌++◌, ◌∷◌, [], ◌||◌, not, ℕ, suc, List, Bool, true, false, cond, refl, sym, ap, subst, ◌∙◌, arith, length, set, get_or, drop, length-set, length-append, inl, inr}
 use Rattle.std.specs.List.{AllByRecursion, list_any}
 use Rattle.std.proofs.lemmas.List.{drop_more}
 use Rattle.std.specs.Str.{bytes_eq}
@@ -11,7 +11,7 @@ use Rattle.flow_graph.specs.declared.op_kind.SetSpec.{SetSpec}
 use Rattle.op_row.specs.Expressed.{AreTargets, width_after, width_with}
 use Rattle.op_shape.specs.Columns.{put_field, set_fields, set_names, set_columns, is_among, stand_twice}
 use Rattle.op_shape.specs.Naming.{is_named, has_column, has_columns, column, columns}
-use Rattle.op_shape.proofs.Held.{column_within, names_lie}
+use Rattle.op_shape.proofs.Held.{names_lie}
 use Rattle.op_shape.proofs.Keys.{one_name}
 
 same_name : (a b : List ℕ) → a ≡ b → bytes_eq a b ≡ true

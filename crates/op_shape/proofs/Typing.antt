@@ -1,5 +1,5 @@
 -- Expressions at which nothing is wrong are typed over the fields, and what they give suits.
-use Rattle.std.proofs.Common.{◌≡◌, ◌≢◌, ◌≤◌, ◌<◌, ◌∷◌, [], ◌==◌, ◌&&◌, not, ℕ, zero, suc, List, Bool, true, false, Option, Some, None, Result, Ok, Err, refl, sym, ap, ◌∙◌, arith, length, map, get_or, subst}
+use Rattle.std.proofs.Common.{◌≡◌, ◌≢◌, ◌<◌, ◌∷◌, [], ◌==◌, ℕ, zero, suc, List, Bool, true, Option, Some, None, Result, Ok, Err, refl, sym, arith, length, get_or, subst}
 use Rattle.std.proofs.lemmas.Bool.{and_parts, eqb-true}
 use Rattle.ds_schema.specs.declared.schema.Field.{Field}
 use Rattle.expr_table.specs.declared.entry.Shape.{Shape}
@@ -7,15 +7,13 @@ use Rattle.expr_table.specs.declared.entry.Shape.TheVariants as shape
 use Rattle.expr_read.specs.declared.tree.Expr.{Expr}
 use Rattle.expr_read.specs.Reading.{expr_of}
 use Rattle.ds_expr.specs.declared.node.TypedNode.{TypedNode}
-use Rattle.ds_expr.specs.Assigning.{can_assign}
 use Rattle.ds_expr.specs.Typed.{TypedTree}
 use Rattle.ds_expr.specs.Typing.{typed_of}
 use Rattle.flow_graph.specs.declared.op_kind.SetSpec.{SetSpec}
 use Rattle.op_row.specs.Expressed.{IsWhole}
-use Rattle.op_shape.specs.declared.fault.ShapeWhy.{ShapeWhy}
 use Rattle.op_shape.specs.declared.fault.ShapeWhy.TheVariants as why
-use Rattle.op_shape.specs.Causes.{cause_if, first_cause}
-use Rattle.op_shape.specs.Exprs.{tree_over, read_over, typed_text, is_truth, is_num, is_test, is_whole, is_set, suits, expr_cause, set_causes, some_tree, expr_over}
+use Rattle.op_shape.specs.Causes.{first_cause}
+use Rattle.op_shape.specs.Exprs.{tree_over, read_over, typed_text, is_truth, is_num, is_whole, is_set, suits, expr_cause, set_causes, some_tree, expr_over}
 use Rattle.op_shape.proofs.Firsts.{none_head}
 use Rattle.op_shape.proofs.Held.{held}
 

@@ -1,6 +1,6 @@
 -- The columns that a transform sets and those that a modify keeps, and the fields that these give.
-use Rattle.std.specs.Prelude.{◌≡◌, ℕ, ◌||◌, not, Bool, true, false, List, [], ◌∷◌, ◌++◌, length, map, get_or, Option, if◌then◌else◌}
-use Rattle.std.specs.List.{filter, list_any, list_all, AllByRecursion}
+use Rattle.std.specs.Prelude.{ℕ, ◌||◌, not, Bool, true, false, List, [], ◌∷◌, length, map, get_or, Option, if◌then◌else◌}
+use Rattle.std.specs.List.{filter, list_any, list_all}
 use Rattle.std.specs.Str.{bytes_eq}
 use Rattle.ds_value.specs.declared.kind.Kind.TheVariants as data_kind
 use Rattle.ds_schema.specs.declared.schema.Field.{Field}
@@ -9,7 +9,7 @@ use Rattle.flow_graph.specs.declared.op_kind.SetSpec.{SetSpec}
 use Rattle.op_shape.specs.declared.fault.ShapeWhy.{ShapeWhy}
 use Rattle.op_shape.specs.declared.fault.ShapeWhy.TheVariants as why
 use Rattle.op_shape.specs.Causes.{cause_if}
-use Rattle.op_shape.specs.Naming.{columns, column, has_column, has_columns}
+use Rattle.op_shape.specs.Naming.{columns, has_column, has_columns}
 
 -- ---- transform
 

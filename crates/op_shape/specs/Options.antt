@@ -1,5 +1,5 @@
 -- What is wrong at an operator's options and outputs, and the fields of its outputs, by the fields of its inputs.
-use Rattle.std.specs.Prelude.{◌≡◌, ℕ, zero, suc, ◌<◌, ◌==◌, Bool, true, false, not, List, [], ◌∷◌, ◌++◌, length, map, get_or, Option, Some, None, codes}
+use Rattle.std.specs.Prelude.{◌≡◌, ℕ, zero, suc, ◌<◌, ◌==◌, Bool, true, false, not, List, [], ◌∷◌, length, get_or, Option, Some, None, codes}
 use Rattle.std.specs.List.{AllByRecursion}
 use Rattle.ds_value.specs.declared.kind.Kind.TheVariants as data_kind
 use Rattle.ds_schema.specs.declared.schema.Field.{Field}

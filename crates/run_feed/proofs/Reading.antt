@@ -10,6 +10,7 @@ use Rattle.op_base.specs.Columns.{IsIn, Row}
 use Rattle.op_base.specs.Keyed.{get_keys}
 use Rattle.op_base.specs.RowOperators.{copy_rule, sink_rule}
 use Rattle.flow_files.specs.declared.tally.Tally.{Tally}
+use Rattle.op_join.specs.declared.kind.JoinKind.TheVariants.{Inner, Left, Right, Full}
 use Rattle.flow_files.specs.Lines.{beyond}
 use Rattle.flow_files.specs.Tallies.{Grows}
 use Rattle.flow_files.specs.Texts.{export_faults}
@@ -18,14 +19,16 @@ use Rattle.flow_graph.specs.declared.flow.OpSpec.{OpSpec}
 use Rattle.flow_graph.specs.declared.op_kind.OpKind.{OpKind}
 use Rattle.flow_graph.specs.declared.op_kind.OpKind.TheVariants as kind
 use Rattle.flow_graph.specs.Charts.{Chart, keys_at, no_op, op_at, parts_of}
-use Rattle.flow_graph.specs.Operators.{Op, by_row, faults, import, remdup, tsort}
+use Rattle.flow_graph.specs.Operators.{Op, by_row, faults, group, import, remdup, tsort}
 use Rattle.flow_graph.specs.RowRules.{row_rule}
+use Rattle.flow_ops.specs.Keyed.{group_of}
 use Rattle.flow_score.proofs.Ranges.{range_more}
 use Rattle.flow_sound.specs.Tallies.{faults_read, if_import}
 use Rattle.flow_sound.proofs.Members.{below_range}
 use Rattle.osh_ends.specs.Built.{is_built_op}
 use Rattle.flow_rules.specs.Exports.{input_of}
-use Rattle.osh_ends.specs.FlowFiles.{IsOp, fields_of, form}
+use Rattle.osh_ends.specs.FlowFiles.{IsOp, fields_of, form, widths_into}
+use Rattle.list_run.specs.Made.{joined_by, looked_by}
 use Rattle.run_feed.specs.Sources.{AllSuit, ReadTo, ReadsFile, RowsSuit, rows_read}
 
 pub at_item : (ops : List OpSpec) (i : ℕ) (x : OpSpec) → i < length ops → x ≡ get_or ops i x → x ≡ get_or ops i no_op
@@ -48,6 +51,12 @@ is_read files c o (kind.Modify keep drop rename) rows rejected old new b h = (by
 is_read files c o (kind.Switch on cases reject) rows rejected old new b h = (by_row (row_rule o (kind.Switch on cases reject) (parts_of c o)), refl, h.0, h.1, h.2)
 is_read files c o (kind.Tsort key) rows rejected old new b h = (tsort (get_keys (keys_at c o) 0), refl, h.0, h.1, h.2)
 is_read files c o (kind.Remdup key last) rows rejected old new b h = (remdup last (get_keys (keys_at c o) 0), refl, h.0, h.1, h.2)
+is_read files c o (kind.Group key hash results) rows rejected old new b h = (group (group_of o hash results (parts_of c o)), refl, h.0, h.1, h.2)
+is_read files c o (kind.InnerJoin key) rows rejected old new b h = (joined_by Inner (parts_of c o) (widths_into c o), refl, h.0, h.1, h.2)
+is_read files c o (kind.LeftOuterJoin key) rows rejected old new b h = (joined_by Left (parts_of c o) (widths_into c o), refl, h.0, h.1, h.2)
+is_read files c o (kind.RightOuterJoin key) rows rejected old new b h = (joined_by Right (parts_of c o) (widths_into c o), refl, h.0, h.1, h.2)
+is_read files c o (kind.FullOuterJoin key) rows rejected old new b h = (joined_by Full (parts_of c o) (widths_into c o), refl, h.0, h.1, h.2)
+is_read files c o (kind.Lookup key missing) rows rejected old new b h = (looked_by o missing (parts_of c o) (widths_into c o), refl, h.0, h.1, h.2)
 is_read files c o k rows rejected old new b h = cc
 
 -- ---- one operator more

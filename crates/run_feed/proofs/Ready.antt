@@ -5,7 +5,10 @@ use Rattle.std.proofs.lemmas.Bool.{eqb-true}
 use Rattle.std.proofs.lemmas.List.FromFn.{get_or-map-range_with_len}
 use Rattle.ds_schema.specs.declared.key.Key.{Key}
 use Rattle.ds_schema.specs.declared.schema.Field.{Field}
+use Rattle.ds_schema.specs.Rows.{ways}
 use Rattle.op_base.specs.Columns.{Row, IsIn}
+use Rattle.op_base.specs.Keyed.{get_keys}
+use Rattle.op_join.specs.declared.kind.JoinKind.TheVariants.{Inner, Left, Right, Full}
 use Rattle.flow_graph.specs.declared.flow.Mark.{Mark}
 use Rattle.flow_graph.specs.declared.flow.Mark.TheVariants as mark
 use Rattle.flow_graph.specs.declared.flow.Method.{Method}
@@ -15,22 +18,28 @@ use Rattle.flow_graph.specs.declared.op_kind.OpKind.{OpKind}
 use Rattle.flow_graph.specs.declared.op_kind.OpKind.TheVariants as kind
 use Rattle.flow_graph.specs.declared.parts.Stored.{Stored}
 use Rattle.flow_graph.specs.declared.route.Choice.{Choice}
-use Rattle.flow_graph.specs.Charts.{Chart, all_links, cols_at, first_width, into_seq, is_seq, keys_at, kind_form, link_at, links_from, links_into, no_link, no_op, op_at, width_at}
+use Rattle.flow_graph.specs.Charts.{Chart, all_links, cols_at, first_width, into_seq, is_seq, keys_at, kind_form, link_at, links_from, links_into, no_link, no_op, op_at, parts_of, width_at}
+use Rattle.flow_graph.specs.Charts.{first_fields as first_fields_into}
 use Rattle.flow_graph.specs.Fitting.{FitsFields, KeepsFields, PassesFields}
 use Rattle.flow_graph.specs.FlowShape.{FormPorts, IsShape, WrittenFits}
+use Rattle.flow_graph.specs.Operators.{Op, group}
 use Rattle.flow_derive.specs.LinkStates.{choice_at, written_or_same}
 use Rattle.flow_score.specs.Scores.{choice_of, degree, degree_at as score_degree, is_same, no_choice}
+use Rattle.flow_ops.specs.Keyed.{group_of}
+use Rattle.flow_ops.specs.Kept.{GivesFields}
 use Rattle.flow_shape.specs.Methods.{written_route}
-use Rattle.op_shape.specs.Options.{first_fields, output_fields}
+use Rattle.op_shape.specs.Options.{IsKeyed, first_fields, output_fields}
 use Rattle.flow_shape.specs.Ports.{may_have_out}
 use Rattle.flow_shape.specs.Refusals.{fields_at, inputs_at, written_at}
 use Rattle.flow_shape.proofs.Causing.{all_at}
 use Rattle.flow_shape.proofs.Holding.{first_of}
 use Rattle.flow_shape.proofs.Orders.{and_parts}
-use Rattle.flow_sound.specs.Fitting.{IsByRow}
+use Rattle.flow_sound.specs.Fitting.{ColumnsSuit, IsByRow}
+use Rattle.flow_sound.specs.Kinds.{IsOfKind, widths_into}
 use Rattle.flow_sound.proofs.Fitting.{given_there}
 use Rattle.flow_sound.proofs.Order.{leaves_it}
-use Rattle.flow_sound.proofs.RowsStaying.{rows_stay}
+use Rattle.flow_sound.proofs.RowsStaying.{keyed_rows_stay, rows_stay}
+use Rattle.list_run.specs.Made.{joined_by, looked_by}
 use Rattle.list_run.specs.Routed.{Joins}
 use Rattle.list_run.specs.Runnable.{CanRun, IsBuilt, degree_at}
 use Rattle.osh_ends.specs.Built.{is_built, is_built_link, is_built_method, is_built_op, is_prop, needs_sort}
@@ -62,19 +71,33 @@ passed c o h g l i = g l i ∙ first_of (fields_at c) (links_into c o) [] 0 h
 one_some : (n : ℕ) → n ≡ 1 → 0 < n
 one_some n e = omega arith
 
+ways_many : (keys : List Key) → length (ways keys) ≡ length keys
+ways_many [] = refl
+ways_many (k ∷ keys) = ap suc (ways_many keys)
+
+as_many : (left right : List Key) → ways left ≡ ways right → length left ≡ length right
+as_many left right e = sym (ways_many left) ∙ ap length e ∙ ways_many right
+
 kind_runs : (c : Chart) (o : ℕ) (k : OpKind) (keys : List (List Key)) (columns : List ℕ) (stored : Option Stored) (width ins : ℕ) → is_built_op k ≡ true → MarkFits k (op_at c o).mark
     → may_have_out k ins (length (links_from c o)) ≡ true → FormPorts (kind_form k keys columns stored width) (length (links_into c o))
-    → ((l : ℕ) → IsIn l (links_from c o) → fields_at c l ≡ output_fields k (inputs_at c o) (link_at c l).out) → (IsByRow k → KeepsFields c o) → IsBuilt c o k
-kind_runs c o (kind.Import file schema delim fixed reject) keys columns stored width ins b m out ports g keeps = ap is_seq m
-kind_runs c o (kind.Export file delim fixed) keys columns stored width ins b m out ports g keeps = none_of (links_from c o) out
-kind_runs c o kind.Copy keys columns stored width ins b m out ports g keeps = passed c o (one_some _ ports) g
-kind_runs c o (kind.Filter test reject) keys columns stored width ins b m out ports g keeps = keeps tt
-kind_runs c o (kind.Transform set reject) keys columns stored width ins b m out ports g keeps = keeps tt
-kind_runs c o (kind.Modify keep drop rename) keys columns stored width ins b m out ports g keeps = keeps tt
-kind_runs c o (kind.Switch on cases reject) keys columns stored width ins b m out ports g keeps = keeps tt
-kind_runs c o (kind.Tsort key) keys columns stored width ins b m out ports g keeps = passed c o (one_some _ ports) g
-kind_runs c o (kind.Remdup key last) keys columns stored width ins b m out ports g keeps = passed c o (one_some _ ports) g
-kind_runs c o k keys columns stored width ins b m out ports g keeps = cc
+    → ((l : ℕ) → IsIn l (links_from c o) → fields_at c l ≡ output_fields k (inputs_at c o) (link_at c l).out) → (IsByRow k → KeepsFields c o)
+    → (IsKeyed k → ColumnsSuit (first_fields_into c o) k (parts_of c o) × ((op : Op) → IsOfKind o k (parts_of c o) (widths_into c o) op → GivesFields c o op)) → IsBuilt c o k
+kind_runs c o (kind.Import file schema delim fixed reject) keys columns stored width ins b m out ports g keeps keyed = ap is_seq m
+kind_runs c o (kind.Export file delim fixed) keys columns stored width ins b m out ports g keeps keyed = none_of (links_from c o) out
+kind_runs c o kind.Copy keys columns stored width ins b m out ports g keeps keyed = passed c o (one_some _ ports) g
+kind_runs c o (kind.Filter test reject) keys columns stored width ins b m out ports g keeps keyed = keeps tt
+kind_runs c o (kind.Transform set reject) keys columns stored width ins b m out ports g keeps keyed = keeps tt
+kind_runs c o (kind.Modify keep drop rename) keys columns stored width ins b m out ports g keeps keyed = keeps tt
+kind_runs c o (kind.Switch on cases reject) keys columns stored width ins b m out ports g keeps keyed = keeps tt
+kind_runs c o (kind.Tsort key) keys columns stored width ins b m out ports g keeps keyed = passed c o (one_some _ ports) g
+kind_runs c o (kind.Remdup key last) keys columns stored width ins b m out ports g keeps keyed = passed c o (one_some _ ports) g
+kind_runs c o (kind.Group key hash results) keys columns stored width ins b m out ports g keeps keyed = ((keyed tt).1 (group (group_of o hash results (parts_of c o))) refl, (keyed tt).0.1)
+kind_runs c o (kind.InnerJoin key) keys columns stored width ins b m out ports g keeps keyed = ((keyed tt).1 (joined_by Inner (parts_of c o) (widths_into c o)) refl, (keyed tt).0)
+kind_runs c o (kind.LeftOuterJoin key) keys columns stored width ins b m out ports g keeps keyed = ((keyed tt).1 (joined_by Left (parts_of c o) (widths_into c o)) refl, (keyed tt).0)
+kind_runs c o (kind.RightOuterJoin key) keys columns stored width ins b m out ports g keeps keyed = ((keyed tt).1 (joined_by Right (parts_of c o) (widths_into c o)) refl, (keyed tt).0)
+kind_runs c o (kind.FullOuterJoin key) keys columns stored width ins b m out ports g keeps keyed = ((keyed tt).1 (joined_by Full (parts_of c o) (widths_into c o)) refl, (keyed tt).0)
+kind_runs c o (kind.Lookup key missing) keys columns stored width ins b m out ports g keeps keyed = ((keyed tt).1 (looked_by o missing (parts_of c o) (widths_into c o)) refl, as_many (get_keys (keys_at c o) 0) (get_keys (keys_at c o) 1) (keyed tt).0)
+kind_runs c o k keys columns stored width ins b m out ports g keeps keyed = cc
 
 pub op_runs : (c : Chart) (choices : List Choice) (nodes : ℕ) → IsShape c → IsReady c choices nodes → (o : ℕ) → o < length c.flow.ops → IsBuilt c o (op_at c o).kind
 op_runs c choices nodes s r o h =
@@ -82,6 +105,7 @@ op_runs c choices nodes s r o h =
     kind_runs c o (op_at c o).kind (keys_at c o) (cols_at c o) (get_or c.stored o None) (first_width c o) out.0 (built_at c r.built o h) (mark_at c choices nodes r o h) out.1 (s.ops o h).inputs
     (λ l i. let leaves = leaves_it c o l i in given_there c o l (r.shape_of.schemas.fits o h) leaves.1 leaves.0)
     (rows_stay c.flow [] c s r.shape_of o h)
+    (keyed_rows_stay c.flow [] c s r.shape_of o h)
 
 -- ---- degrees
 
@@ -95,6 +119,12 @@ not_stored (kind.Modify keep drop rename) m b f e = f e
 not_stored (kind.Switch on cases reject) m b f e = f e
 not_stored (kind.Tsort key) m b f e = f e
 not_stored (kind.Remdup key last) m b f e = f e
+not_stored (kind.Group key hash results) m b f e = f e
+not_stored (kind.InnerJoin key) m b f e = f e
+not_stored (kind.LeftOuterJoin key) m b f e = f e
+not_stored (kind.RightOuterJoin key) m b f e = f e
+not_stored (kind.FullOuterJoin key) m b f e = f e
+not_stored (kind.Lookup key missing) m b f e = f e
 not_stored k m b f e = cc
 
 same_degree : (nodes : ℕ) (m : Mark) (stored : Option Stored) → (m ≡ mark.Stored → ⊥) → degree nodes m stored ≡ cond (is_seq m) 1 nodes
@@ -120,6 +150,8 @@ joins_by method.Auto from to sorts nodes width fields b e w = e refl
 joins_by method.Same from to sorts nodes width fields b e w = e refl
 joins_by method.RoundRobin from true sorts nodes width fields b e w = cc
 joins_by method.RoundRobin from false sorts nodes width fields b e w = tt
+joins_by method.Entire from true sorts nodes width fields b e w = let f = w.0 in cc
+joins_by method.Entire from false sorts nodes width fields b e w = tt
 joins_by (method.Hash names) from true sorts nodes width fields b e w = tt
 joins_by (method.Hash names) from false sorts nodes width fields b e w = tt
 joins_by method.Any from true sorts nodes width fields b e w = refl

@@ -28,7 +28,6 @@ use Rattle.flow_sound.proofs.Keeping.{run_keeps}
 use Rattle.flow_sound.proofs.Meaning.{has_meaning}
 use Rattle.flow_sound.proofs.Members.{below_range, same_map}
 use Rattle.flow_sound.proofs.RowsFitting.{exports_fit}
-use Rattle.flow_sound.proofs.Tallying.{work_tallied}
 use Rattle.list_run.specs.declared.ran.Ran.{Ran}
 use Rattle.list_run.specs.Runnable.{IsRunOf, OpsAre, row_count, worked_faults}
 use Rattle.run_feed.specs.Fed.{Fed, IsReady, SinksFit}
@@ -65,7 +64,7 @@ fed files c choices nodes states sources ran left old mid new s r v t runs d e a
   sinks = λ o b x. sink_same c ran left o e ∙ i.sinks o b x;
   grades = λ o b x. k.sinks o b x;
   found = read ++ i.faults.found;
-  same = subst (λ worked. IsPermutation (read ++ i.faults.found) (read ++ worked)) (work_tallied infer_regains c.flow [] c states choices t.ops m.0 i.run a) (IsPermutation-append_right read i.faults.found (worked_faults c i.run) i.faults.same);
+  same = IsPermutation-append_right read i.faults.found (worked_faults c i.run) i.faults.same;
   tally = further old mid new read i.faults.found t.tally (adds i.faults.found i.faults.number i.faults.least);
 }
   where

@@ -15,6 +15,7 @@ use Rattle.op_base.specs.Keyed.{get_keys}
 use Rattle.op_base.specs.Meanings.{Line, good, bad, line_rows}
 use Rattle.op_base.specs.RowOperators.{copy_rule, sink_rule}
 use Rattle.op_base.proofs.All.{all_append}
+use Rattle.op_join.specs.declared.kind.JoinKind.TheVariants.{Inner, Left, Right, Full}
 use Rattle.flow_files.specs.Lines.{AreLinesFrom, IsLine, bad_record, beyond}
 use Rattle.flow_files.specs.Texts.{export_faults}
 use Rattle.flow_graph.specs.declared.op_kind.OpKind.{OpKind}
@@ -23,13 +24,15 @@ use Rattle.flow_graph.specs.declared.parts.OpParts.{OpParts}
 use Rattle.flow_graph.specs.Charts.{Chart, link_at, links_from, op_at, parts_of}
 use Rattle.flow_graph.specs.Fitting.{FitsFields}
 use Rattle.flow_graph.specs.FlowShape.{IsShape}
-use Rattle.flow_graph.specs.Operators.{Op, by_row, import, remdup, result, tsort}
+use Rattle.flow_graph.specs.Operators.{Op, by_row, group, import, remdup, result, tsort}
 use Rattle.flow_graph.specs.RowRules.{row_rule}
 use Rattle.op_shape.specs.Options.{line_fields, made_or_rejected, output_fields}
 use Rattle.flow_shape.specs.Refusals.{IsShapeOf, fields_at, inputs_at}
-use Rattle.flow_sound.specs.Kinds.{AreOfKinds, IsOfKind, LineFits}
+use Rattle.flow_ops.specs.Keyed.{group_of}
+use Rattle.flow_sound.specs.Kinds.{AreOfKinds, IsOfKind, LineFits, widths_into}
 use Rattle.flow_sound.proofs.Fitting.{given_there}
 use Rattle.flow_sound.proofs.Order.{leaves_it}
+use Rattle.list_run.specs.Made.{joined_by, looked_by}
 use Rattle.list_run.specs.Runnable.{OpIs}
 use Rattle.osh_ends.specs.Built.{is_built, is_built_op}
 use Rattle.flow_rules.specs.Exports.{input_of}
@@ -58,6 +61,12 @@ rows_by (kind.Modify keep drop rename) ins q fields rows rejected b e h = on_non
 rows_by (kind.Switch on cases reject) ins q fields rows rejected b e h = on_none fields q rows rejected h
 rows_by (kind.Tsort key) ins q fields rows rejected b e h = on_none fields q rows rejected h
 rows_by (kind.Remdup key last) ins q fields rows rejected b e h = on_none fields q rows rejected h
+rows_by (kind.Group key hash results) ins q fields rows rejected b e h = on_none fields q rows rejected h
+rows_by (kind.InnerJoin key) ins q fields rows rejected b e h = on_none fields q rows rejected h
+rows_by (kind.LeftOuterJoin key) ins q fields rows rejected b e h = on_none fields q rows rejected h
+rows_by (kind.RightOuterJoin key) ins q fields rows rejected b e h = on_none fields q rows rejected h
+rows_by (kind.FullOuterJoin key) ins q fields rows rejected b e h = on_none fields q rows rejected h
+rows_by (kind.Lookup key missing) ins q fields rows rejected b e h = on_none fields q rows rejected h
 rows_by k ins q fields rows rejected b e h = cc
 
 pub link_rows : (c : Chart) (rows rejected : List (List Row)) (l : ℕ) → IsShape c → IsShapeOf c.flow [] c → is_built c.flow ≡ true → AllSuit c (length c.flow.ops) rows rejected → l < length c.flow.links → All (FitsFields (fields_at c l)) (rows_on c rows rejected l)
@@ -76,16 +85,22 @@ rejected_as row = bad row (bad_record 0 0 [])
 abbrev lines_for : List Row → List Row → List Line
 lines_for rows rejected = map good rows ++ map rejected_as rejected
 
-op_for : ℕ → OpKind → OpParts → List Row → List Row → Op
-op_for o (kind.Import file schema delim fixed reject) parts rows rejected = import (lines_for rows rejected) reject []
-op_for o (kind.Export file delim fixed) parts rows rejected = by_row (sink_rule (λ r. []))
-op_for o (kind.Filter test reject) parts rows rejected = by_row (row_rule o (kind.Filter test reject) parts)
-op_for o (kind.Transform set reject) parts rows rejected = by_row (row_rule o (kind.Transform set reject) parts)
-op_for o (kind.Modify keep drop rename) parts rows rejected = by_row (row_rule o (kind.Modify keep drop rename) parts)
-op_for o (kind.Switch on cases reject) parts rows rejected = by_row (row_rule o (kind.Switch on cases reject) parts)
-op_for o (kind.Tsort key) parts rows rejected = tsort (get_keys parts.keys 0)
-op_for o (kind.Remdup key last) parts rows rejected = remdup last (get_keys parts.keys 0)
-op_for o k parts rows rejected = by_row copy_rule
+op_for : ℕ → OpKind → OpParts → List ℕ → List Row → List Row → Op
+op_for o (kind.Import file schema delim fixed reject) parts widths rows rejected = import (lines_for rows rejected) reject []
+op_for o (kind.Export file delim fixed) parts widths rows rejected = by_row (sink_rule (λ r. []))
+op_for o (kind.Filter test reject) parts widths rows rejected = by_row (row_rule o (kind.Filter test reject) parts)
+op_for o (kind.Transform set reject) parts widths rows rejected = by_row (row_rule o (kind.Transform set reject) parts)
+op_for o (kind.Modify keep drop rename) parts widths rows rejected = by_row (row_rule o (kind.Modify keep drop rename) parts)
+op_for o (kind.Switch on cases reject) parts widths rows rejected = by_row (row_rule o (kind.Switch on cases reject) parts)
+op_for o (kind.Tsort key) parts widths rows rejected = tsort (get_keys parts.keys 0)
+op_for o (kind.Remdup key last) parts widths rows rejected = remdup last (get_keys parts.keys 0)
+op_for o (kind.Group key hash results) parts widths rows rejected = group (group_of o hash results parts)
+op_for o (kind.InnerJoin key) parts widths rows rejected = joined_by Inner parts widths
+op_for o (kind.LeftOuterJoin key) parts widths rows rejected = joined_by Left parts widths
+op_for o (kind.RightOuterJoin key) parts widths rows rejected = joined_by Right parts widths
+op_for o (kind.FullOuterJoin key) parts widths rows rejected = joined_by Full parts widths
+op_for o (kind.Lookup key missing) parts widths rows rejected = looked_by o missing parts widths
+op_for o k parts widths rows rejected = by_row copy_rule
 
 good_fit : (schema : List Field) (rows : List Row) → AllByRecursion (FitsFields schema) rows → AllByRecursion (LineFits schema) (map good rows)
 good_fit schema [] h = tt
@@ -121,25 +136,31 @@ output_parts (suc q) rows rejected = refl
 lines_give : (q : ℕ) (rejects : Bool) (rows rejected : List Row) → (rejects ≡ false → rejected ≡ []) → flat_map (line_rows q rejects) (lines_for rows rejected) ≡ on_output q rows rejected
 lines_give q rejects rows rejected n = flat_map-append (line_rows q rejects) (map good rows) (map rejected_as rejected) ∙ ap₂ (λ a b. a ++ b) (good_rows q rejects rows) (rejected_rows q rejects rejected n) ∙ output_parts q rows rejected
 
-for_kind : (o : ℕ) (k : OpKind) (parts : OpParts) (rows rejected : List Row) → is_built_op k ≡ true → RowsSuit k rows rejected → IsOfKind o k parts (op_for o k parts rows rejected)
+for_kind : (o : ℕ) (k : OpKind) (parts : OpParts) (widths : List ℕ) (rows rejected : List Row) → is_built_op k ≡ true → RowsSuit k rows rejected → IsOfKind o k parts widths (op_for o k parts widths rows rejected)
 unfolding op_for
-for_kind o (kind.Import file schema delim fixed reject) parts rows rejected b h =
+for_kind o (kind.Import file schema delim fixed reject) parts widths rows rejected b h =
     (lines_for rows rejected, [], all_append (LineFits schema) (map good rows) (map rejected_as rejected) (good_fit schema rows h.0) (rejected_fit schema rejected h.1), refl)
-for_kind o (kind.Export file delim fixed) parts rows rejected b h = (λ r. [], refl)
-for_kind o kind.Copy parts rows rejected b h = refl
-for_kind o (kind.Filter test reject) parts rows rejected b h = refl
-for_kind o (kind.Transform set reject) parts rows rejected b h = refl
-for_kind o (kind.Modify keep drop rename) parts rows rejected b h = refl
-for_kind o (kind.Switch on cases reject) parts rows rejected b h = refl
-for_kind o (kind.Tsort key) parts rows rejected b h = refl
-for_kind o (kind.Remdup key last) parts rows rejected b h = refl
-for_kind o k parts rows rejected b h = cc
+for_kind o (kind.Export file delim fixed) parts widths rows rejected b h = (λ r. [], refl)
+for_kind o kind.Copy parts widths rows rejected b h = refl
+for_kind o (kind.Filter test reject) parts widths rows rejected b h = refl
+for_kind o (kind.Transform set reject) parts widths rows rejected b h = refl
+for_kind o (kind.Modify keep drop rename) parts widths rows rejected b h = refl
+for_kind o (kind.Switch on cases reject) parts widths rows rejected b h = refl
+for_kind o (kind.Tsort key) parts widths rows rejected b h = refl
+for_kind o (kind.Remdup key last) parts widths rows rejected b h = refl
+for_kind o (kind.Group key hash results) parts widths rows rejected b h = refl
+for_kind o (kind.InnerJoin key) parts widths rows rejected b h = refl
+for_kind o (kind.LeftOuterJoin key) parts widths rows rejected b h = refl
+for_kind o (kind.RightOuterJoin key) parts widths rows rejected b h = refl
+for_kind o (kind.FullOuterJoin key) parts widths rows rejected b h = refl
+for_kind o (kind.Lookup key missing) parts widths rows rejected b h = refl
+for_kind o k parts widths rows rejected b h = cc
 
 -- what is on the links that leave an operator
 abbrev OnLinks : Chart → List (List Row) → ℕ → List Row → List Row → Type 0
 OnLinks c sources o rows rejected = (l : ℕ) → IsIn l (links_from c o) → get_or sources l [] ≡ on_output (link_at c l).out rows rejected
 
-for_links : (c : Chart) (sources : List (List Row)) (o : ℕ) (k : OpKind) (rows rejected : List Row) → is_built_op k ≡ true → RowsSuit k rows rejected → OnLinks c sources o rows rejected → OpIs c sources o (op_for o k (parts_of c o) rows rejected) k
+for_links : (c : Chart) (sources : List (List Row)) (o : ℕ) (k : OpKind) (rows rejected : List Row) → is_built_op k ≡ true → RowsSuit k rows rejected → OnLinks c sources o rows rejected → OpIs c sources o (op_for o k (parts_of c o) (widths_into c o) rows rejected) k
 unfolding op_for
 for_links c sources o (kind.Import file schema delim fixed reject) rows rejected b s h = ((lines_for rows rejected, reject, [], refl), λ l i. lines_give (link_at c l).out reject rows rejected s.2 ∙ sym (h l i))
 for_links c sources o (kind.Export file delim fixed) rows rejected b s h = (λ r. [], refl)
@@ -150,6 +171,12 @@ for_links c sources o (kind.Modify keep drop rename) rows rejected b s h = refl
 for_links c sources o (kind.Switch on cases reject) rows rejected b s h = refl
 for_links c sources o (kind.Tsort key) rows rejected b s h = refl
 for_links c sources o (kind.Remdup key last) rows rejected b s h = refl
+for_links c sources o (kind.Group key hash results) rows rejected b s h = refl
+for_links c sources o (kind.InnerJoin key) rows rejected b s h = refl
+for_links c sources o (kind.LeftOuterJoin key) rows rejected b s h = refl
+for_links c sources o (kind.RightOuterJoin key) rows rejected b s h = refl
+for_links c sources o (kind.FullOuterJoin key) rows rejected b s h = refl
+for_links c sources o (kind.Lookup key missing) rows rejected b s h = refl
 for_links c sources o k rows rejected b s h = cc
 
 on_links : (c : Chart) (rows rejected sources : List (List Row)) → ((l : ℕ) → l < length c.flow.links → get_or sources l [] ≡ rows_on c rows rejected l) → (o : ℕ) → OnLinks c sources o (get_or rows o []) (get_or rejected o [])
@@ -163,8 +190,8 @@ can_feed c rows rejected sources s f u suits given each = record {
   given = given;
   rows = λ l h. subst (All (FitsFields (fields_at c l))) (sym (each l h)) (link_rows c rows rejected l s f u suits h);
   kinds = (
-    λ o. op_for o (op_at c o).kind (parts_of c o) (get_or rows o []) (get_or rejected o []),
-    λ o h. for_kind o (op_at c o).kind (parts_of c o) (get_or rows o []) (get_or rejected o []) (built_at c u o h) (suits o h),
+    λ o. op_for o (op_at c o).kind (parts_of c o) (widths_into c o) (get_or rows o []) (get_or rejected o []),
+    λ o h. for_kind o (op_at c o).kind (parts_of c o) (widths_into c o) (get_or rows o []) (get_or rejected o []) (built_at c u o h) (suits o h),
     λ o h. for_links c sources o (op_at c o).kind (get_or rows o []) (get_or rejected o []) (built_at c u o h) (suits o h) (on_links c rows rejected sources each o),
   );
 }
@@ -197,6 +224,12 @@ op_is files c sources o (kind.Modify keep drop rename) op rows rejected b h e f 
 op_is files c sources o (kind.Switch test cases reject) op rows rejected b h e f on = h
 op_is files c sources o (kind.Tsort key) op rows rejected b h e f on = h
 op_is files c sources o (kind.Remdup key last) op rows rejected b h e f on = h
+op_is files c sources o (kind.Group key hash results) op rows rejected b h e f on = h
+op_is files c sources o (kind.InnerJoin key) op rows rejected b h e f on = h
+op_is files c sources o (kind.LeftOuterJoin key) op rows rejected b h e f on = h
+op_is files c sources o (kind.RightOuterJoin key) op rows rejected b h e f on = h
+op_is files c sources o (kind.FullOuterJoin key) op rows rejected b h e f on = h
+op_is files c sources o (kind.Lookup key missing) op rows rejected b h e f on = h
 op_is files c sources o k op rows rejected b h e f on = cc
 
 item_fits : (form : Form) (fields : List Field) (o n : ℕ) (line : List ℕ) (item : Line) → IsLine form fields o n line item → LineFits fields item
@@ -209,7 +242,7 @@ items_fit form fields o n [] (item ∷ items) h = absurd h
 items_fit form fields o n (line ∷ lines) [] h = absurd h
 items_fit form fields o n (line ∷ lines) (item ∷ items) h = (item_fits form fields o n line item h.0, items_fit form fields o (suc n) lines items h.1)
 
-op_of_kind : (files : FileMap) (c : Chart) (o : ℕ) (k : OpKind) (op : Op) → IsOp files c o k op → IsOfKind o k (parts_of c o) op
+op_of_kind : (files : FileMap) (c : Chart) (o : ℕ) (k : OpKind) (op : Op) → IsOp files c o k op → IsOfKind o k (parts_of c o) (widths_into c o) op
 op_of_kind files c o (kind.Import file schema delim fixed reject) op h = (h.1, beyond o h.0, items_fit (form delim fixed) schema o 1 _ h.1 h.3, h.4)
 op_of_kind files c o (kind.Export file delim fixed) op h = (export_faults o (form delim fixed) (fields_of c (input_of c o)), h)
 op_of_kind files c o kind.Copy op h = h
@@ -219,6 +252,12 @@ op_of_kind files c o (kind.Modify keep drop rename) op h = h
 op_of_kind files c o (kind.Switch on cases reject) op h = h
 op_of_kind files c o (kind.Tsort key) op h = h
 op_of_kind files c o (kind.Remdup key last) op h = h
+op_of_kind files c o (kind.Group key hash results) op h = h
+op_of_kind files c o (kind.InnerJoin key) op h = h
+op_of_kind files c o (kind.LeftOuterJoin key) op h = h
+op_of_kind files c o (kind.RightOuterJoin key) op h = h
+op_of_kind files c o (kind.FullOuterJoin key) op h = h
+op_of_kind files c o (kind.Lookup key missing) op h = h
 op_of_kind files c o k op h = absurd h
 
 pub ops_of_kinds : (files : FileMap) (c : Chart) (ops : ℕ → Op) → ((o : ℕ) → o < length c.flow.ops → IsOp files c o (op_at c o).kind (ops o)) → AreOfKinds c ops

@@ -4,7 +4,6 @@ use Rattle.std.specs.List.{AllByRecursion}
 use Rattle.std.specs.List.Sorted.{IsPermutation}
 use Rattle.op_base.specs.declared.fault.Fault.{Fault}
 use Rattle.op_base.specs.Columns.{Row}
-use Rattle.op_base.specs.Lists.{joined}
 use Rattle.ds_port.specs.FileMap.{FileMap}
 use Rattle.flow_files.specs.declared.tally.Tally.{Tally}
 use Rattle.flow_files.specs.Tallies.{Grows}
@@ -43,7 +42,7 @@ pub record IsReady (c : Chart) (choices : List Choice) (nodes : ℕ) : Type 0 wh
 abbrev pub SinksFit : Chart → Ran → Type 0
 SinksFit c ran = (o : ℕ) → o < length c.flow.ops → IsExport (op_at c o).kind → AllByRecursion (RowsFit (fields_at c (input_of c o))) (get_or ran.sinks o [])
 
--- the lists of a legal run of the flow over these files: the rows that the meaning has are counted on each link, what came at the exports is there, and the faults of the imports and of the operators by rows were tallied
+-- the lists of a legal run of the flow over these files: the rows that the meaning has are counted on each link, what came at the exports is there, and the faults of the imports and of the operators between imports and exports were tallied
 pub record Fed (files : FileMap) (c : Chart) (states : List State) (choices : List Choice) (ran : Ran) (old new : Tally) : Type 0 where
   pub ops : ℕ → Op
   pub whole : ℕ → List Row
@@ -54,5 +53,5 @@ pub record Fed (files : FileMap) (c : Chart) (states : List State) (choices : Li
   pub sinks : (o : ℕ) → o < length c.flow.ops → IsExport (op_at c o).kind → get_or ran.sinks o [] ≡ run.got (input_of c o)
   pub grades : MeetsGrades c states whole run.got
   pub found : List Fault
-  pub same : IsPermutation found (faults_before c ops (λ l. joined (run.got l)))
+  pub same : IsPermutation found (faults_before c ops run.failed)
   pub tally : Grows old new found

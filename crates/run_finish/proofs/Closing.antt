@@ -74,9 +74,9 @@ come files c states choices ran tally r o b e = r.sinks o b e
 pub meant_tallied : (files : FileMap) (c : Chart) (states : List State) (choices : List Choice) (ran : Ran) (old new : Tally) (r : IsRun files c states choices ran old)
     → Grows old new (flat_map (faults_written c r.ops (λ l. joined (r.run.got l))) (all_ops c)) → Tallies (meant_faults r.whole (nodes_of c r.ops)) new
 meant_tallied files c states choices ran old new r g =
-    tallies_permuted (tallied c r.ops (λ l. joined (r.run.got l))) (meant_faults r.whole (nodes_of c r.ops)) new
+    tallies_permuted (tallied c r.ops r.run) (meant_faults r.whole (nodes_of c r.ops)) new
     (run_tallied infer_regains c.flow [] c states choices r.ops r.whole r.run r.accepted)
-    (g (faults_before c r.ops (λ l. joined (r.run.got l))) r.tally)
+    (g (faults_before c r.ops r.run.failed) r.tally)
 
 done_end : (c : Chart) (states : List State) (choices : List Choice) (nodes : ℕ) (whole : ℕ → List Row) (parts : ℕ → List (List Row)) (fs : List Fault) → fs ≡ [] → MeetsGrades c states whole parts
     → Finishes c states choices nodes whole fs (done (files_of c parts) (report c states choices nodes whole))

@@ -2,7 +2,6 @@
 use Rattle.std.specs.Prelude.{◌≡◌, ◌<◌, ℕ, Bool, List, [], length}
 use Rattle.ds_port.specs.FileMap.{FileMap}
 use Rattle.op_base.specs.Columns.{Row}
-use Rattle.op_base.specs.Lists.{joined}
 use Rattle.flow_files.specs.declared.tally.Tally.{Tally}
 use Rattle.flow_files.specs.Tallies.{Tallies}
 use Rattle.flow_graph.specs.declared.route.Choice.{Choice}
@@ -24,7 +23,7 @@ use Rattle.run_finish.specs.declared.ending.Ending.TheVariants as ending
 use Rattle.run_finish.specs.Reported.{AreCounts}
 use Rattle.run_finish.specs.Written.{sink_at}
 
--- what is there is of a legal run of the flow over these files: the numbers of the rows that the meaning has, what came at the exports, and the faults of the imports and of the operators by rows
+-- what is there is of a legal run of the flow over these files: the numbers of the rows that the meaning has, what came at the exports, and the faults of the imports and of the operators between imports and exports
 pub record IsRun (files : FileMap) (c : Chart) (states : List State) (choices : List Choice) (ran : Ran) (found : Tally) : Type 0 where
   pub ops : ℕ → Op
   pub whole : ℕ → List Row
@@ -34,7 +33,7 @@ pub record IsRun (files : FileMap) (c : Chart) (states : List State) (choices : 
   pub counts : AreCounts c whole ran.counts
   pub sinks : (o : ℕ) → o < length c.flow.ops → IsExport (op_at c o).kind → sink_at ran.sinks o ≡ run.got (input_of c o)
   pub grades : MeetsGrades c states whole run.got
-  pub tally : Tallies (faults_before c ops (λ l. joined (run.got l))) found
+  pub tally : Tallies (faults_before c ops run.failed) found
 
 -- the run ended: its files and its report are left, or the report of its faults; or a device failed on the way, or memory was wanting, and nothing is left
 abbrev pub Ends : (old new : FileMap) → Chart → ℕ → List State → List Choice → (tells : Bool) → (out_old out_new : List ℕ) → (files_rose out_rose : Type 0) → Ending → Type 0

@@ -20,7 +20,7 @@ use std::alloc::Global;
 
 /// Writes what came at the exports. Where no operator had a fault the outputs become files and the
 /// numbers of rows are reported; else no file is made, and the faults are reported. `tally` has the
-/// faults of the imports and of the operators that work row by row.
+/// faults of the imports and of the operators between imports and exports.
 pub fn finish_run<F: Files, O: Sink>(
     alloc: Global,
     files: &mut F,

@@ -3,7 +3,6 @@ use Rattle.std.proofs.Common.{◌≡◌, ◌≤◌, inl, inr, ℕ, Bool, List, [
 use Rattle.std.proofs.lemmas.List.FromFn.{length-map-range_with_len}
 use Rattle.ds_port.specs.Causes.{Rose}
 use Rattle.ds_port.specs.FileMap.{FileMap}
-use Rattle.op_base.specs.Lists.{joined}
 use Rattle.flow_files.specs.declared.tally.Tally.{Tally}
 use Rattle.flow_files.specs.Tallies.{Tallies}
 use Rattle.flow_graph.specs.declared.route.Choice.{Choice}
@@ -49,7 +48,7 @@ is_run files c states choices ran old new t f = record {
   counts = f.counts;
   sinks = f.sinks;
   grades = f.grades;
-  tally = tallies_permuted f.found (faults_before c f.ops (λ l. joined (f.run.got l))) new f.same (f.tally [] t);
+  tally = tallies_permuted f.found (faults_before c f.ops f.run.failed) new f.same (f.tally [] t);
 }
 
 -- what broke, where a count that rose later rose

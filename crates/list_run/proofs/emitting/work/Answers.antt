@@ -1,28 +1,35 @@
-use Rattle.std.proofs.Common.{ap, ◌∙◌, [], List, get_or, subst}
-use Rattle.op_base.specs.Columns.{Row}
-use Rattle.flow_graph.specs.declared.op_kind.OpKind.{OpKind}
-use Rattle.list_run.specs.Worked.{SuitsParts}
-use Rattle.list_run.proofs.Working.{filter_does, transform_does, modify_does, switch_does}
-use Rattle.list_run.proofs.Grouped.{group_does}
+use Rattle.std.proofs.Common.{refl, ap, ◌∙◌, inl, inr}
+use Rattle.op_join.specs.declared.kind.JoinKind.TheVariants.{Inner, Left, Right, Full}
+use Rattle.list_run.specs.Worked.{ports_of}
+use Rattle.list_run.proofs.Matched.{lookup_does, match_does}
 use Rattle.list_run.proofs.emitting.work.Goals as goal
 
-pub returns-in-Filter : goal.returns-in-Filter
-returns-in-Filter c = filter_does c.args.kind.now _ _ c.args.parts.now c.first_expr.result.now c.args.widths.now c.args.lists c.into_vec-rows.result.items c.run_filter.result
-    (c.into_vec-rows.ensures ∙ c.take_at.ensures.list ∙ ap (λ (ls : List (List Row)). get_or ls 0 []) c.into_vec-lists.ensures) c.in-Filter.is c.first_expr.ensures c.run_filter.ensures
+pub work_alone-requires-clause-alone : goal.work_alone-requires-clause-alone
+work_alone-requires-clause-alone c = elim c.in-Filter.is [
+  | inl e ↦ ap ports_of e.2
+  | inr t ↦ elim t [
+    | inl e ↦ ap ports_of e.2
+    | inr u ↦ elim u [
+      | inl e ↦ ap ports_of e.3
+      | inr v ↦ elim v [ inl e ↦ ap ports_of e.3 | inr e ↦ ap ports_of e.3 ]
+    ]
+  ]
+]
 
-pub returns-in-Transform : goal.returns-in-Transform
-returns-in-Transform c = transform_does c.args.kind.now _ _ c.args.parts.now c.in_ok-sets-in-Transform.sets.items c.args.widths.now c.args.lists c.into_vec-rows.result.items c.run_transform.result
-    (c.into_vec-rows.ensures ∙ c.take_at.ensures.list ∙ ap (λ (ls : List (List Row)). get_or ls 0 []) c.into_vec-lists.ensures) c.in-Transform.is c.in_ok-sets-in-Transform.ensures c.run_transform.ensures
+pub work_alone-requires-clause-one : goal.work_alone-requires-clause-one
+work_alone-requires-clause-one c = c.requires.ports ∙ work_alone-requires-clause-alone c
 
-pub returns-in-Group : goal.returns-in-Group
-returns-in-Group c = group_does c.args.kind.now _ _ _ c.args.parts.now c.args.widths.now c.args.lists c.in_ok-keys-in-Group.keys c.in_ok-aggs-in-Group.aggs.items c.into_vec-rows.result.items c.run_group.result
-    c.in-Group.is (subst (λ (k : OpKind). SuitsParts k c.args.parts.now c.args.widths.now) c.in-Group.is c.requires.parts) c.requires.ports c.in_ok-keys-in-Group.ensures c.in_ok-aggs-in-Group.ensures
-    (c.into_vec-rows.ensures ∙ c.take_at.ensures.list ∙ ap (λ (ls : List (List Row)). get_or ls 0 []) c.into_vec-lists.ensures) c.run_group.ensures
+pub returns-in-InnerJoin : goal.returns-in-InnerJoin
+returns-in-InnerJoin c = match_does c.args.kind.now _ Inner c.args.parts.now c.args.widths.now c.args.lists c.match_rows.result c.in-InnerJoin.is refl (λ o q. refl) (λ o. refl) c.match_rows.ensures
 
-pub returns-in-Modify : goal.returns-in-Modify
-returns-in-Modify c = modify_does c.args.kind.now _ _ _ c.args.parts.now c.args.widths.now c.args.lists c.into_vec-rows.result.items c.run_modify.result
-    (c.into_vec-rows.ensures ∙ c.take_at.ensures.list ∙ ap (λ (ls : List (List Row)). get_or ls 0 []) c.into_vec-lists.ensures) c.in-Modify.is c.run_modify.ensures
+pub returns-in-LeftOuterJoin : goal.returns-in-LeftOuterJoin
+returns-in-LeftOuterJoin c = match_does c.args.kind.now _ Left c.args.parts.now c.args.widths.now c.args.lists c.match_rows-in-LeftOuterJoin.result c.in-LeftOuterJoin.is refl (λ o q. refl) (λ o. refl) c.match_rows-in-LeftOuterJoin.ensures
 
-pub returns-in-Switch : goal.returns-in-Switch
-returns-in-Switch c = switch_does c.args.kind.now _ _ _ c.args.parts.now c.first_expr-in-Switch.result.now c.args.widths.now c.args.lists c.into_vec-rows.result.items c.run_switch.result
-    (c.into_vec-rows.ensures ∙ c.take_at.ensures.list ∙ ap (λ (ls : List (List Row)). get_or ls 0 []) c.into_vec-lists.ensures) c.in-Switch.is c.first_expr-in-Switch.ensures c.run_switch.ensures
+pub returns-in-RightOuterJoin : goal.returns-in-RightOuterJoin
+returns-in-RightOuterJoin c = match_does c.args.kind.now _ Right c.args.parts.now c.args.widths.now c.args.lists c.match_rows-in-RightOuterJoin.result c.in-RightOuterJoin.is refl (λ o q. refl) (λ o. refl) c.match_rows-in-RightOuterJoin.ensures
+
+pub returns-in-FullOuterJoin : goal.returns-in-FullOuterJoin
+returns-in-FullOuterJoin c = match_does c.args.kind.now _ Full c.args.parts.now c.args.widths.now c.args.lists c.match_rows-in-FullOuterJoin.result c.in-FullOuterJoin.is refl (λ o q. refl) (λ o. refl) c.match_rows-in-FullOuterJoin.ensures
+
+pub returns-in-Lookup : goal.returns-in-Lookup
+returns-in-Lookup c = lookup_does c.args.kind.now _ _ c.args.parts.now c.args.widths.now c.args.lists c.look_up.result c.in-Lookup.is c.look_up.ensures

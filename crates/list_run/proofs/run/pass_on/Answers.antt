@@ -9,7 +9,7 @@ use Rattle.flow_graph.specs.Charts.{link_at, op_at, no_op, keys_at}
 use Rattle.list_run.specs.declared.held.Held.{Held}
 use Rattle.list_run.specs.Held.{Puts, outputs}
 use Rattle.list_run.specs.Made.{made}
-use Rattle.list_run.specs.Runnable.{first_into}
+use Rattle.flow_rules.specs.Exports.{input_of}
 use Rattle.list_run.proofs.Links.{same_at}
 use Rattle.list_run.proofs.Tallying.{still}
 use Rattle.list_run.proofs.run.pass_on.Goals as goal
@@ -31,7 +31,7 @@ returns c =
     let mid : Held = record { waiting = c.take_at-got.new.lists; counts = c.args.held.now.counts; sinks = c.args.held.now.sinks; tally = c.args.held.now.tally } in
     record {
       mid = mid;
-      others = λ l k. ap (λ (ls : List (List (List Row))). get_or ls l []) (c.take_at-got.ensures.rest ∙ ap (λ i. set olds i []) c.input_of.ensures) ∙ get_or-set_other olds (first_into chart op) l [] [] (λ e. k (ap (λ i. (link_at chart i).to) e ∙ c.requires.input));
+      others = λ l k. ap (λ (ls : List (List (List Row))). get_or ls l []) (c.take_at-got.ensures.rest ∙ ap (λ i. set olds i []) c.input_of.ensures) ∙ get_or-set_other olds (input_of chart op) l [] [] (λ e. k (ap (λ i. (link_at chart i).to) e ∙ c.requires.input));
       counts = refl;
       sinks = refl;
       found = still c.args.held.now.tally c.args.held.now.tally refl;

@@ -7,7 +7,8 @@ use Rattle.flow_graph.specs.Charts.{no_op, op_at, keys_at, cols_at, first_width,
 use Rattle.flow_graph.specs.FlowShape.{FormPorts}
 use Rattle.list_run.specs.Found.{found_by}
 use Rattle.list_run.specs.Held.{made_at, sent_by, sent_on, waits, worked_at}
-use Rattle.list_run.specs.Runnable.{IsBuilt, IsExport}
+use Rattle.flow_rules.specs.Exports.{IsExport}
+use Rattle.list_run.specs.Runnable.{IsBuilt}
 use Rattle.list_run.proofs.Links.{same_at}
 use Rattle.list_run.proofs.Inputs.{one_member, only_input, ports_at}
 use Rattle.list_run.proofs.Steps.{Makes, Passes, Quiet, copy_passes, copy_quiet, import_sent, may_as, pass_sent, passes, remdup_passes, remdup_quiet, step_export, tsort_passes, tsort_quiet, work_sent, works}
@@ -95,7 +96,22 @@ work_on-requires-clause-may c =
           | inl e ↦ may (kind.Modify e.0 e.1 e.2) (known ∙ e.3) (λ parts widths q inputs rows. refl)
           | inr v ↦ elim v [
             | inl e ↦ may (kind.Switch e.0 e.1 e.2) (known ∙ e.3) (λ parts widths q inputs rows. refl)
-            | inr e ↦ may (kind.Group e.0 e.1 e.2) (known ∙ e.3) (λ parts widths q inputs rows. refl)
+            | inr w ↦ elim w [
+              | inl e ↦ may (kind.Group e.0 e.1 e.2) (known ∙ e.3) (λ parts widths q inputs rows. refl)
+              | inr x ↦ elim x [
+                | inl e ↦ may (kind.InnerJoin e.0) (known ∙ e.1) (λ parts widths q inputs rows. refl)
+                | inr y ↦ elim y [
+                  | inl e ↦ may (kind.LeftOuterJoin e.0) (known ∙ e.1) (λ parts widths q inputs rows. refl)
+                  | inr z ↦ elim z [
+                    | inl e ↦ may (kind.RightOuterJoin e.0) (known ∙ e.1) (λ parts widths q inputs rows. refl)
+                    | inr a ↦ elim a [
+                      | inl e ↦ may (kind.FullOuterJoin e.0) (known ∙ e.1) (λ parts widths q inputs rows. refl)
+                      | inr e ↦ may (kind.Lookup e.0 e.1) (known ∙ e.2) (λ parts widths q inputs rows. refl)
+                    ]
+                  ]
+                ]
+              ]
+            ]
           ]
         ]
       ]
@@ -116,7 +132,22 @@ returns-in_ok-work_on-in-Filter c =
           | inl e ↦ work (kind.Modify e.0 e.1 e.2) (known ∙ e.3) (λ parts widths q inputs rows. refl) (λ x. x)
           | inr v ↦ elim v [
             | inl e ↦ work (kind.Switch e.0 e.1 e.2) (known ∙ e.3) (λ parts widths q inputs rows. refl) (λ x. x)
-            | inr e ↦ work (kind.Group e.0 e.1 e.2) (known ∙ e.3) (λ parts widths q inputs rows. refl) (λ x. x)
+            | inr w ↦ elim w [
+              | inl e ↦ work (kind.Group e.0 e.1 e.2) (known ∙ e.3) (λ parts widths q inputs rows. refl) (λ x. x)
+              | inr x ↦ elim x [
+                | inl e ↦ work (kind.InnerJoin e.0) (known ∙ e.1) (λ parts widths q inputs rows. refl) (λ x. x)
+                | inr y ↦ elim y [
+                  | inl e ↦ work (kind.LeftOuterJoin e.0) (known ∙ e.1) (λ parts widths q inputs rows. refl) (λ x. x)
+                  | inr z ↦ elim z [
+                    | inl e ↦ work (kind.RightOuterJoin e.0) (known ∙ e.1) (λ parts widths q inputs rows. refl) (λ x. x)
+                    | inr a ↦ elim a [
+                      | inl e ↦ work (kind.FullOuterJoin e.0) (known ∙ e.1) (λ parts widths q inputs rows. refl) (λ x. x)
+                      | inr e ↦ work (kind.Lookup e.0 e.1) (known ∙ e.2) (λ parts widths q inputs rows. refl) (λ x. x)
+                    ]
+                  ]
+                ]
+              ]
+            ]
           ]
         ]
       ]

@@ -1,6 +1,4 @@
-use Rattle.std.proofs.Common.{ℕ, Bool, List, ◌∙◌}
-use Rattle.op_shape.specs.Keyed.{field_named}
-use Rattle.op_shape.proofs.Others.{key_there, map_next}
+use Rattle.op_shape.proofs.Others.{key_there}
 use Rattle.op_shape.proofs.grouping.key_fields.Goals as goal
 
 pub field_named-requires : goal.field_named-requires

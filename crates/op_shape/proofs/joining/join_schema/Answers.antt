@@ -1,4 +1,4 @@
-use Rattle.std.proofs.Common.{ap, ap₂, subst, sym, ◌∙◌}
+use Rattle.std.proofs.Common.{ap₂, subst, sym, ◌∙◌}
 use Rattle.ds_schema.specs.Schemas.{IsSchema}
 use Rattle.op_shape.specs.Keyed.{join_fields}
 use Rattle.op_shape.proofs.Held.{are_both}

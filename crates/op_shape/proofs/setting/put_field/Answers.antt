@@ -1,4 +1,4 @@
-use Rattle.std.proofs.Common.{◌≡◌, ◌<◌, ◌≤◌, Option, Some, None, ap, arith, length, position, set, sym, ◌∙◌}
+use Rattle.std.proofs.Common.{◌≡◌, ◌<◌, Some, ap, arith, length, position, set, sym, ◌∙◌}
 use Rattle.op_shape.specs.Naming.{column, is_named}
 use Rattle.op_shape.proofs.Places.{place_none, place_some}
 use Rattle.op_shape.proofs.Putting.{put_behind, put_set}

@@ -2,8 +2,8 @@ use Rattle.std.proofs.Common.{Bool, List, [], sym, subst}
 use Rattle.streams.specs.Streams.{Feed}
 use Rattle.op_base.specs.Columns.{Row}
 use Rattle.op_base.specs.WholeLists.{list_feeds, SuitsEach}
-use Rattle.list_run.proofs.Grouped.{group_fed, is_group}
-use Rattle.list_run.proofs.grouping.run_group.Goals as goal
+use Rattle.list_run.proofs.Grouped.{group_fed, is_hashed}
+use Rattle.list_run.proofs.grouping.run_hashed.Goals as goal
 
 pub run_list-requires-clause-suits : goal.run_list-requires-clause-suits
 run_list-requires-clause-suits c =
@@ -11,4 +11,4 @@ run_list-requires-clause-suits c =
     subst P (sym c.in_ok-op.ensures.suits) (group_fed c.args.keys c.args.aggs.items c.args.rows.items c.requires)
 
 pub returns : goal.returns
-returns c = is_group c.args.keys c.args.aggs.items c.args.rows.items c.in_ok-emit.emit _ c.in_ok-op.ensures.stream c.in_ok-emit.ensures.emitted c.in_ok-emit.ensures.gives
+returns c = is_hashed c.args.keys c.args.aggs.items c.args.rows.items c.in_ok-emit.emit _ c.in_ok-op.ensures.stream c.in_ok-emit.ensures.emitted c.in_ok-emit.ensures.gives
