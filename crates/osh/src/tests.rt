@@ -32,6 +32,30 @@ const PARTED: &[u8] =
 const REJECTED: &[u8] =
     b"import -file \"in.txt\" -schema 'record ( id: int32; )' | [hash id] transform -set 'part: int32 = 10 / id' -reject > rest.v | [any] export -file \"out.txt\"; export -file \"rest.txt\" < [any] rest.v";
 
+const OVERFLOWING: &[u8] =
+    b"import -file \"in.txt\" -schema 'record ( g: int32; v: int64; )' | tsort -key g [seq] | [same] group -key g -sum 't=v' [seq] | export -file \"out.txt\"";
+
+const GROUPED: &[u8] =
+    b"import -file \"in.txt\" -schema 'record ( g: int32; v: int32; )' | [hash g] group -key g -hash -count n -sum 's=v' | [any] export -file \"out.txt\"";
+
+const JOINED: &[u8] =
+    b"import -file \"r.txt\" -schema 'record ( k: nullable int32; b: string[max=4]; )' | tsort -key k [seq] > r.v; import -file \"in.txt\" -schema 'record ( k: nullable int32; a: string[max=4]; )' | tsort -key k [seq] | [same] fullouterjoin -key k [seq] < [same] r.v | export -file \"out.txt\"";
+
+const JOINED_APART: &[u8] =
+    b"import -file \"r.txt\" -schema 'record ( a: int32; b: int32; )' | [hash b] tsort -key 'a,b' > r.v; import -file \"in.txt\" -schema 'record ( a: int32; b: int32; )' | [hash a] tsort -key 'a,b' | [same] innerjoin -key 'a,b' < [same] r.v | [any] export -file \"out.txt\"";
+
+const LOOKED_EVERYWHERE: &[u8] =
+    b"import -file \"r.txt\" -schema 'record ( id: int32; name: string[max=10]; )' > r.v; import -file \"in.txt\" -schema 'record ( id: int32; )' | [rr] lookup -key id -missing continue < [entire] r.v | [any] export -file \"out.txt\"";
+
+const LOOKED_DROPPING: &[u8] =
+    b"import -file \"r.txt\" -schema 'record ( id: int32; name: string[max=10]; )' > r.v; import -file \"in.txt\" -schema 'record ( id: int32; )' | lookup -key id -missing drop [seq] < r.v | export -file \"out.txt\"";
+
+const LOOKED_FAILING: &[u8] =
+    b"import -file \"r.txt\" -schema 'record ( id: int32; name: string[max=10]; )' > r.v; import -file \"in.txt\" -schema 'record ( id: int32; )' | lookup -key id [seq] < r.v | export -file \"out.txt\"";
+
+const LOOKED_REJECTING: &[u8] =
+    b"import -file \"r.txt\" -schema 'record ( id: int32; name: string[max=10]; )' > r.v; import -file \"in.txt\" -schema 'record ( id: int32; )' | lookup -key id -missing reject [seq] < r.v > x.v | export -file \"out.txt\"; export -file \"rest.txt\" < x.v";
+
 const NODE: &[u8] =
     b"\" { fastname \"h\" pools \"\" resource disk \"d\" {pools \"\"} resource scratchdisk \"s\" {pools \"\"} }\n";
 
@@ -67,12 +91,13 @@ fn run_words(alloc: Global) -> Result<Vec<String>, Fail> {
     ]?)
 }
 
-/// A run: the flow, the number of nodes and the input, and what it comes to: the status, what is on
-/// out and on err, and what is written to `out.txt` and to `rest.txt`.
+/// A run: the flow, the number of nodes, the input and what `r.txt` has, and what it comes to: the
+/// status, what is on out and on err, and what is written to `out.txt` and to `rest.txt`.
 struct Run {
     flow: &'static [u8],
     nodes: u8,
     input: &'static [u8],
+    reference: &'static [u8],
     status: u8,
     out: &'static [u8],
     err: &'static [u8],
@@ -85,6 +110,7 @@ fn compare(rt: &impl Abort, alloc: Global, run: &Run) -> Result<(), Fail> {
     put(alloc, &mut files, b"f.osh", run.flow)?;
     put(alloc, &mut files, b"c.cfg", &config(alloc, run.nodes)?)?;
     put(alloc, &mut files, b"in.txt", run.input)?;
+    put(alloc, &mut files, b"r.txt", run.reference)?;
     let mut out = MemSink::new(alloc, None, NeverFails);
     let mut err = MemSink::new(alloc, None, NeverFails);
     let words = run_words(alloc)?;
@@ -97,11 +123,12 @@ fn compare(rt: &impl Abort, alloc: Global, run: &Run) -> Result<(), Fail> {
     Ok(())
 }
 
-const RUNS: [Run; 12] = [
+const RUNS: [Run; 20] = [
     Run {
         flow: DOUBLED,
         nodes: 2,
         input: b"1,0.50\n2,1.25\n3,\n",
+        reference: b"",
         status: 0,
         out: b"score nodes 2\nop 0 import seq 1\nop 1 filter seq 1\nop 2 transform seq 1\nop 3 export seq 1\nlink 0 0.0 1.0 same\nlink 1 1.0 2.0 same\nlink 2 2.0 3.0 same\nplayers 4\nverdict accepted\nlink 0 agree() solo sort()\nlink 1 agree() solo sort()\nlink 2 agree() solo sort()\nsink 3 exact\ncount 0 3\ncount 1 2\ncount 2 2\nstatus 0\n",
         err: b"",
@@ -112,6 +139,7 @@ const RUNS: [Run; 12] = [
         flow: DIVIDED,
         nodes: 2,
         input: b"5\n0\n-3\n0\n",
+        reference: b"",
         status: 9,
         out: b"score nodes 2\nop 0 import seq 1\nop 1 transform par 2\nop 2 export seq 1\nlink 0 0.0 1.0 rr\nlink 1 1.0 2.0 any\nplayers 4\nverdict accepted\nlink 0 bag none sort()\nlink 1 bag solo sort()\nsink 2 bag\nfaults 2\nleast op 1 ZeroDivisor 0 010000000000000000\nstatus 9\n",
         err: b"",
@@ -122,6 +150,7 @@ const RUNS: [Run; 12] = [
         flow: COPY,
         nodes: 1,
         input: b"+01,\"a,b\"\r\n-2,\"d \"\"e\"\"\"",
+        reference: b"",
         status: 0,
         out: b"score nodes 1\nop 0 import seq 1\nop 1 copy seq 1\nop 2 export seq 1\nlink 0 0.0 1.0 same\nlink 1 1.0 2.0 same\nplayers 3\nverdict accepted\nlink 0 agree() solo sort()\nlink 1 agree() solo sort()\nsink 2 exact\ncount 0 2\ncount 1 2\nstatus 0\n",
         err: b"",
@@ -132,6 +161,7 @@ const RUNS: [Run; 12] = [
         flow: COPY,
         nodes: 4,
         input: b"1,ann\nx,bob\n3,cy\n",
+        reference: b"",
         status: 9,
         out: b"score nodes 4\nop 0 import seq 1\nop 1 copy seq 1\nop 2 export seq 1\nlink 0 0.0 1.0 same\nlink 1 1.0 2.0 same\nplayers 3\nverdict accepted\nlink 0 agree() solo sort()\nlink 1 agree() solo sort()\nsink 2 exact\nfaults 1\nleast op 0 BadRecord 2 782c626f62\nstatus 9\n",
         err: b"",
@@ -142,6 +172,7 @@ const RUNS: [Run; 12] = [
         flow: FIRST_PER_KEY,
         nodes: 4,
         input: b"2,rome\n1,oslo\n2,bern\n3,kyiv\n1,lima\n4,rome\n",
+        reference: b"",
         status: 0,
         out: b"score nodes 4\nop 0 import seq 1\nop 1 tsort par 4\nop 2 remdup par 4\nop 3 export seq 1\nlink 0 0.0 1.0 hash(id)\nlink 1 1.0 2.0 same\nlink 2 2.0 3.0 any\nplayers 10\nverdict accepted\nlink 0 agree(id) hash(id) sort()\nlink 1 agree(id) hash(id) sort(id)\nlink 2 agree(id) solo sort()\nsink 3 by id\ncount 0 6\ncount 1 6\ncount 2 4\nstatus 0\n",
         err: b"",
@@ -152,6 +183,7 @@ const RUNS: [Run; 12] = [
         flow: FIRST_PER_KEY,
         nodes: 1,
         input: b"2,rome\n1,oslo\n2,bern\n",
+        reference: b"",
         status: 0,
         out: b"score nodes 1\nop 0 import seq 1\nop 1 tsort par 1\nop 2 remdup par 1\nop 3 export seq 1\nlink 0 0.0 1.0 hash(id)\nlink 1 1.0 2.0 same\nlink 2 2.0 3.0 any\nplayers 4\nverdict accepted\nlink 0 agree(id) hash(id) sort()\nlink 1 agree(id) hash(id) sort(id)\nlink 2 agree(id) solo sort()\nsink 3 by id\ncount 0 3\ncount 1 3\ncount 2 2\nstatus 0\n",
         err: b"",
@@ -162,6 +194,7 @@ const RUNS: [Run; 12] = [
         flow: SPLIT_KEYS,
         nodes: 1,
         input: b"1,2,3\n",
+        reference: b"",
         status: 5,
         out: b"verdict refused link 2 need agree(b) have agree(a,b) hash(b) sort(b)\nstatus 5\n",
         err: b"",
@@ -172,6 +205,7 @@ const RUNS: [Run; 12] = [
         flow: SPLIT_KEYS,
         nodes: 4,
         input: b"1,2,3\n",
+        reference: b"",
         status: 5,
         out: b"verdict refused link 2 need agree(b) have agree(a,b) hash(b) sort(b)\nstatus 5\n",
         err: b"",
@@ -182,6 +216,7 @@ const RUNS: [Run; 12] = [
         flow: SAME_INTO_MANY,
         nodes: 4,
         input: b"1,ann\n",
+        reference: b"",
         status: 6,
         out: b"",
         err: b"osh: degree link 0 1 4\n",
@@ -192,6 +227,7 @@ const RUNS: [Run; 12] = [
         flow: DEALT,
         nodes: 2,
         input: b"1,ann\n2,bob\n3,cy\n",
+        reference: b"",
         status: 0,
         out: b"score nodes 2\nop 0 import seq 1\nop 1 copy par 2\nop 2 export seq 1\nlink 0 0.0 1.0 rr\nlink 1 1.0 2.0 any\nplayers 4\nverdict accepted\nlink 0 bag none sort()\nlink 1 bag solo sort()\nsink 2 bag\ncount 0 3\ncount 1 3\nstatus 0\n",
         err: b"",
@@ -202,6 +238,7 @@ const RUNS: [Run; 12] = [
         flow: PARTED,
         nodes: 1,
         input: b"  7ann \n -2bob\n 10cid\n  3dave\n",
+        reference: b"",
         status: 0,
         out: b"score nodes 1\nop 0 import seq 1\nop 1 filter seq 1\nop 2 modify seq 1\nop 3 switch seq 1\nop 4 export seq 1\nop 5 export seq 1\nlink 0 0.0 1.0 same\nlink 1 1.0 2.0 same\nlink 2 2.0 3.0 same\nlink 3 3.0 4.0 same\nlink 4 3.1 5.0 same\nplayers 6\nverdict accepted\nlink 0 agree() solo sort()\nlink 1 agree() solo sort()\nlink 2 agree() solo sort()\nlink 3 agree() solo sort()\nlink 4 agree() solo sort()\nsink 4 exact\nsink 5 exact\ncount 0 4\ncount 1 3\ncount 2 3\ncount 3 2\ncount 4 1\nstatus 0\n",
         err: b"",
@@ -212,11 +249,100 @@ const RUNS: [Run; 12] = [
         flow: REJECTED,
         nodes: 2,
         input: b"5\n0\n-3\n0\n",
+        reference: b"",
         status: 0,
         out: b"score nodes 2\nop 0 import seq 1\nop 1 transform par 2\nop 2 export seq 1\nop 3 export seq 1\nlink 0 0.0 1.0 hash(id)\nlink 1 1.0 2.0 any\nlink 2 1.1 3.0 any\nplayers 5\nverdict accepted\nlink 0 bag hash(id) sort()\nlink 1 agree(id) solo sort()\nlink 2 bag solo sort()\nsink 2 by id\nsink 3 bag\ncount 0 4\ncount 1 2\ncount 2 2\nstatus 0\n",
         err: b"",
         written: Some(b"-3,-3\n5,2\n"),
         rest: Some(b"0\n0\n"),
+    },
+    Run {
+        flow: OVERFLOWING,
+        nodes: 4,
+        input: b"1,9223372036854775806\n1,1\n2,9223372036854775807\n2,1\n3,-9223372036854775808\n3,-1\n",
+        reference: b"",
+        status: 9,
+        out: b"score nodes 4\nop 0 import seq 1\nop 1 tsort seq 1\nop 2 group seq 1\nop 3 export seq 1\nlink 0 0.0 1.0 same\nlink 1 1.0 2.0 same\nlink 2 2.0 3.0 same\nplayers 4\nverdict accepted\nlink 0 agree() solo sort()\nlink 1 agree() solo sort(g)\nlink 2 agree() solo sort(g)\nsink 3 exact\nfaults 2\nleast op 2 Overflow 0 010000000000000002\nstatus 9\n",
+        err: b"",
+        written: None,
+        rest: None,
+    },
+    Run {
+        flow: GROUPED,
+        nodes: 3,
+        input: b"1,7\n4,1\n2,5\n2,3\n1,1\n4,2\n3,9\n",
+        reference: b"",
+        status: 0,
+        out: b"score nodes 3\nop 0 import seq 1\nop 1 group par 3\nop 2 export seq 1\nlink 0 0.0 1.0 hash(g)\nlink 1 1.0 2.0 any\nplayers 5\nverdict accepted\nlink 0 agree(g) hash(g) sort()\nlink 1 agree(g) solo sort()\nsink 2 by g\ncount 0 7\ncount 1 4\nstatus 0\n",
+        err: b"",
+        written: Some(b"4,2,3\n2,2,8\n3,1,9\n1,2,8\n"),
+        rest: None,
+    },
+    Run {
+        flow: JOINED,
+        nodes: 1,
+        input: b",x\n1,y\n",
+        reference: b",p\n2,q\n",
+        status: 0,
+        out: b"score nodes 1\nop 0 import seq 1\nop 1 tsort seq 1\nop 2 import seq 1\nop 3 tsort seq 1\nop 4 fullouterjoin seq 1\nop 5 export seq 1\nlink 0 0.0 1.0 same\nlink 1 2.0 3.0 same\nlink 2 3.0 4.0 same\nlink 3 1.0 4.1 same\nlink 4 4.0 5.0 same\nplayers 6\nverdict accepted\nlink 0 agree() solo sort()\nlink 1 agree() solo sort()\nlink 2 agree() solo sort(k)\nlink 3 agree() solo sort(k)\nlink 4 agree(k) solo sort(k)\nsink 5 by k\ncount 0 2\ncount 1 2\ncount 2 2\ncount 3 2\ncount 4 3\nstatus 0\n",
+        err: b"",
+        written: Some(b",x,p\n1,y,\n2,,q\n"),
+        rest: None,
+    },
+    Run {
+        flow: JOINED_APART,
+        nodes: 2,
+        input: b"1,2\n",
+        reference: b"1,2\n",
+        status: 5,
+        out: b"verdict refused link 3 need place hash(a) have agree(b) hash(b) sort(a,b)\nstatus 5\n",
+        err: b"",
+        written: None,
+        rest: None,
+    },
+    Run {
+        flow: LOOKED_EVERYWHERE,
+        nodes: 2,
+        input: b"1\n2\n3\n",
+        reference: b"1,x\n1,y\n3,z\n",
+        status: 0,
+        out: b"score nodes 2\nop 0 import seq 1\nop 1 import seq 1\nop 2 lookup par 2\nop 3 export seq 1\nlink 0 1.0 2.0 rr\nlink 1 0.0 2.1 entire\nlink 2 2.0 3.0 any\nplayers 5\nverdict accepted\nlink 0 bag none sort()\nlink 1 agree() entire sort()\nlink 2 bag solo sort()\nsink 3 bag\ncount 0 3\ncount 1 3\ncount 2 3\nstatus 0\n",
+        err: b"",
+        written: Some(b"1,x\n3,z\n2,\n"),
+        rest: None,
+    },
+    Run {
+        flow: LOOKED_DROPPING,
+        nodes: 1,
+        input: b"1\n2\n",
+        reference: b"1,x\n1,y\n",
+        status: 0,
+        out: b"score nodes 1\nop 0 import seq 1\nop 1 import seq 1\nop 2 lookup seq 1\nop 3 export seq 1\nlink 0 1.0 2.0 same\nlink 1 0.0 2.1 same\nlink 2 2.0 3.0 same\nplayers 4\nverdict accepted\nlink 0 agree() solo sort()\nlink 1 agree() solo sort()\nlink 2 agree() solo sort()\nsink 3 exact\ncount 0 2\ncount 1 2\ncount 2 1\nstatus 0\n",
+        err: b"",
+        written: Some(b"1,x\n"),
+        rest: None,
+    },
+    Run {
+        flow: LOOKED_FAILING,
+        nodes: 1,
+        input: b"1\n2\n",
+        reference: b"1,x\n1,y\n",
+        status: 9,
+        out: b"score nodes 1\nop 0 import seq 1\nop 1 import seq 1\nop 2 lookup seq 1\nop 3 export seq 1\nlink 0 1.0 2.0 same\nlink 1 0.0 2.1 same\nlink 2 2.0 3.0 same\nplayers 4\nverdict accepted\nlink 0 agree() solo sort()\nlink 1 agree() solo sort()\nlink 2 agree() solo sort()\nsink 3 exact\nfaults 1\nleast op 2 Missing 0 010000000000000002\nstatus 9\n",
+        err: b"",
+        written: None,
+        rest: None,
+    },
+    Run {
+        flow: LOOKED_REJECTING,
+        nodes: 1,
+        input: b"1\n2\n",
+        reference: b"1,x\n1,y\n",
+        status: 0,
+        out: b"score nodes 1\nop 0 import seq 1\nop 1 import seq 1\nop 2 lookup seq 1\nop 3 export seq 1\nop 4 export seq 1\nlink 0 1.0 2.0 same\nlink 1 0.0 2.1 same\nlink 2 2.0 3.0 same\nlink 3 2.1 4.0 same\nplayers 5\nverdict accepted\nlink 0 agree() solo sort()\nlink 1 agree() solo sort()\nlink 2 agree() solo sort()\nlink 3 agree() solo sort()\nsink 3 exact\nsink 4 exact\ncount 0 2\ncount 1 2\ncount 2 1\ncount 3 1\nstatus 0\n",
+        err: b"",
+        written: Some(b"1,x\n"),
+        rest: Some(b"2\n"),
     },
 ];
 
