@@ -1,8 +1,10 @@
 //! Flows with an operator of two inputs: their first faults.
 
-ghost use Rattle.std.specs.Prelude.{◌≡◌, IfOk};
+ghost use Rattle.std.specs.Prelude.{◌≡◌, ◌++◌, ◌∷◌, [], length, IfOk};
+ghost use Rattle.std.specs.List.{AllByRecursion};
 ghost use Rattle.flow_graph.specs.declared.flow.Flag.TheVariants as flag;
 ghost use Rattle.flow_graph.specs.declared.flow.Method.TheVariants as method;
+ghost use Rattle.flow_graph.specs.declared.flow.OpSpec.{OpSpec as Op};
 ghost use Rattle.op_shape.specs.Options.{IsKnown, KeysDistinct, OptionsStand};
 ghost use Rattle.flow_shape.specs.Refusals.{HasOnlyKnown};
 ghost use Rattle.flow_shape.specs.Spelled.{IsJoined};
@@ -30,35 +32,46 @@ fn link(from: u32, to: u32, port: u32) -> LinkSpec
     }
 }
 
-/// Two imports, an operator behind both, and an export.
-fn flow_of(
-    alloc: Global,
-    left: OpSpec,
-    right: OpSpec,
-    both: OpSpec,
-    last: OpSpec,
-) -> Result<Flow, NoMemory>
-    requires left { IsKnown left.kind × KeysDistinct left.kind × OptionsStand left.kind }
-    requires right { IsKnown right.kind × KeysDistinct right.kind × OptionsStand right.kind }
-    requires both { IsKnown both.kind × KeysDistinct both.kind × OptionsStand both.kind }
-    requires last { IsKnown last.kind × KeysDistinct last.kind × OptionsStand last.kind }
-    ensures known { IfOk result HasOnlyKnown }
-    ensures joined { IfOk result IsJoined }
+/// Two links into operator 2, and one on to the last.
+fn links(alloc: Global) -> Result<Items<LinkSpec>, NoMemory>
+    ensures { IfOk result (λ links. links ≡ record { from = 0; out = 0; to = 2; port = 0; method = method.Auto; flag = flag.Prop } ∷ (record { from = 1; out = 0; to = 2; port = 1; method = method.Auto; flag = flag.Prop } ∷ (record { from = 2; out = 0; to = 3; port = 0; method = method.Auto; flag = flag.Prop } ∷ []))) }
 {
-    let mut ops = Items::new(alloc);
-    ops.push(left)?;
-    ops.push(right)?;
-    ops.push(both)?;
-    ops.push(last)?;
     let mut links = Items::new(alloc);
     links.push(link(0, 2, 0))?;
     links.push(link(1, 2, 1))?;
     links.push(link(2, 3, 0))?;
+    Ok(links)
+}
+
+/// An operator behind two others, and one behind it.
+fn behind(mut ops: Items<OpSpec>, both: OpSpec, last: OpSpec) -> Result<Items<OpSpec>, NoMemory>
+    ensures { IfOk result (λ all. all ≡ ops ++ (both ∷ (last ∷ []))) }
+{
+    ops.push(both)?;
+    ops.push(last)?;
+    Ok(ops)
+}
+
+fn pair(alloc: Global, left: OpSpec, right: OpSpec) -> Result<Items<OpSpec>, NoMemory>
+    ensures { IfOk result (λ ops. ops ≡ left ∷ (right ∷ [])) }
+{
+    let mut ops = Items::new(alloc);
+    ops.push(left)?;
+    ops.push(right)?;
+    Ok(ops)
+}
+
+fn flow_of(alloc: Global, ops: Items<OpSpec>) -> Result<Flow, NoMemory>
+    requires four { length ops ≡ 4 }
+    requires stand { AllByRecursion (λ (s : Op). IsKnown s.kind × (KeysDistinct s.kind × OptionsStand s.kind)) ops }
+    ensures known { IfOk result HasOnlyKnown }
+    ensures joined { IfOk result IsJoined }
+{
     Ok(Flow {
         nopart: false,
         nosort: false,
         ops,
-        links,
+        links: links(alloc)?,
     })
 }
 
@@ -70,7 +83,7 @@ fn name(alloc: Global, text: &str) -> Result<Name, Fail> {
 }
 
 fn import(alloc: Global, file: &str, schema: &str) -> Result<OpSpec, Fail>
-    ensures { IfOk result (λ s. IsKnown s.kind × KeysDistinct s.kind × OptionsStand s.kind) }
+    ensures { IfOk result (λ s. IsKnown s.kind × (KeysDistinct s.kind × OptionsStand s.kind)) }
 {
     Ok(OpSpec {
         kind: OpKind::Import {
@@ -86,7 +99,7 @@ fn import(alloc: Global, file: &str, schema: &str) -> Result<OpSpec, Fail>
 
 /// An export of three columns.
 fn export(alloc: Global) -> Result<OpSpec, Fail>
-    ensures { IfOk result (λ s. IsKnown s.kind × KeysDistinct s.kind × OptionsStand s.kind) }
+    ensures { IfOk result (λ s. IsKnown s.kind × (KeysDistinct s.kind × OptionsStand s.kind)) }
 {
     let mut widths = Items::new(alloc);
     widths.push(5)?;
@@ -103,7 +116,7 @@ fn export(alloc: Global) -> Result<OpSpec, Fail>
 }
 
 fn by_id(alloc: Global, looks_up: bool) -> Result<OpSpec, Fail>
-    ensures { IfOk result (λ s. IsKnown s.kind × KeysDistinct s.kind × OptionsStand s.kind) }
+    ensures { IfOk result (λ s. IsKnown s.kind × (KeysDistinct s.kind × OptionsStand s.kind)) }
 {
     let mut key = Items::new(alloc);
     key.push((name(alloc, "id")?, false))?;
@@ -126,9 +139,9 @@ fn by_id(alloc: Global, looks_up: bool) -> Result<OpSpec, Fail>
 fn fault(alloc: Global, looks_up: bool, right: &str) -> Result<Option<(ShapeWhy, u32)>, Fail> {
     let first = import(alloc, "l.txt", LEFT)?;
     let second = import(alloc, "r.txt", right)?;
-    let both = by_id(alloc, looks_up)?;
-    let last = export(alloc)?;
-    let flow = flow_of(alloc, first, second, both, last)?;
+    let ops = pair(alloc, first, second)?;
+    let ops = behind(ops, by_id(alloc, looks_up)?, export(alloc)?)?;
+    let flow = flow_of(alloc, ops)?;
     match shape(alloc, flow, &[]) {
         Ok(_) => Ok(None),
         Err(ShapeFault::Bad { why, op }) => Ok(Some((why, op))),
@@ -143,7 +156,10 @@ fn flows_of_two_inputs(rt: HostRuntime) -> Result<(), Fail> {
         ("record ( city: string[8]; id: int32; )", None),
         ("record ( city: string[8]; )", Some((ShapeWhy::Field, 2))),
         ("record ( id: int64; )", Some((ShapeWhy::Kind, 2))),
-        ("record ( id: int32; name: date; )", Some((ShapeWhy::Double, 2))),
+        (
+            "record ( id: int32; name: date; )",
+            Some((ShapeWhy::Double, 2)),
+        ),
         ("record ( id: int32; )", Some((ShapeWhy::Schemas, 3))),
     ];
     for (right, wanted) in &rows {

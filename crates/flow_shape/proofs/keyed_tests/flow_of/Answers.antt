@@ -1,4 +1,5 @@
 use Rattle.std.proofs.Common.{◌≡◌, ◌<◌, ◌==◌, ◌++◌, ◌∷◌, [], ℕ, zero, suc, List, Bool, true, false, cond, refl, sym, ap, ◌∙◌, arith, length, get_or, subst}
+use Rattle.std.specs.List.{AllByRecursion}
 use Rattle.std.proofs.lemmas.Bool.{eqb-true}
 use Rattle.flow_graph.specs.declared.flow.Flag.TheVariants as flag
 use Rattle.flow_graph.specs.declared.flow.Flow.{Flow}
@@ -6,7 +7,6 @@ use Rattle.flow_graph.specs.declared.flow.LinkSpec.{LinkSpec}
 use Rattle.flow_graph.specs.declared.flow.Method.TheVariants as method
 use Rattle.flow_graph.specs.declared.flow.OpSpec.{OpSpec}
 use Rattle.op_shape.specs.Options.{IsKnown, KeysDistinct, OptionsStand}
-use Rattle.flow_shape.specs.Refusals.{HasOnlyKnown}
 use Rattle.flow_shape.specs.Spelled.{IsJoined}
 use Rattle.flow_shape.proofs.keyed_tests.flow_of.Goals as goal
 
@@ -36,32 +36,32 @@ apart_at : (o : ℕ) → (2 == o) ≡ true → (3 == o) ≡ true → ⊥
 apart_at o e f = let two = eqb-true 2 o e in let three = eqb-true 3 o f in omega (arith, two, three)
 
 abbrev Stands : OpSpec → Type 0
-Stands s = IsKnown s.kind × KeysDistinct s.kind × OptionsStand s.kind
+Stands s = IsKnown s.kind × (KeysDistinct s.kind × OptionsStand s.kind)
 
-joined : (left right both last : OpSpec) → Stands left → Stands right → Stands both → Stands last → IsJoined (flow_with (left ∷ (right ∷ (both ∷ (last ∷ [])))) three)
-joined left right both last a b c d = record {
-  few = omega arith;
-  within = ((omega arith, omega arith), ((omega arith, omega arith), ((omega arith, omega arith), tt)));
+each_known : (ops : List OpSpec) → AllByRecursion Stands ops → AllByRecursion (λ (s : OpSpec). IsKnown s.kind) ops
+each_known [] a = tt
+each_known (s ∷ ops) a = (a.0.0, each_known ops a.1)
+
+each_differ : (ops : List OpSpec) → AllByRecursion Stands ops → AllByRecursion (λ (s : OpSpec). KeysDistinct s.kind) ops
+each_differ [] a = tt
+each_differ (s ∷ ops) a = (a.0.1.0, each_differ ops a.1)
+
+each_stand : (ops : List OpSpec) → AllByRecursion Stands ops → AllByRecursion (λ (s : OpSpec). OptionsStand s.kind) ops
+each_stand [] a = tt
+each_stand (s ∷ ops) a = (a.0.1.1, each_stand ops a.1)
+
+joined : (ops : List OpSpec) → length ops ≡ 4 → AllByRecursion Stands ops → IsJoined (flow_with ops three)
+joined ops n a = record {
+  few = omega (arith, n);
+  within = ((omega (arith, n), omega (arith, n)), ((omega (arith, n), omega (arith, n)), ((omega (arith, n), omega (arith, n)), tt)));
   ports = λ o i h. in_order (2 == o) (3 == o) (λ l. (get_or three l (link_between 0 0 0)).port) refl refl refl (apart_at o) i h;
-  keys = (a.1, (b.1, (c.1, (d.1, tt))));
-  options = (a.2, (b.2, (c.2, (d.2, tt))));
+  keys = each_differ ops a;
+  options = each_stand ops a;
   methods = (tt, (tt, (tt, tt)));
 }
 
-four_are : {X : Type 0} (none one two three four : List X) (a b c d : X) → none ≡ [] → one ≡ none ++ a ∷ [] → two ≡ one ++ b ∷ [] → three ≡ two ++ c ∷ [] → four ≡ three ++ d ∷ [] → four ≡ a ∷ (b ∷ (c ∷ (d ∷ [])))
-four_are none one two three four a b c d e f g h i = i ∙ ap (λ xs. xs ++ d ∷ []) (h ∙ ap (λ xs. xs ++ c ∷ []) (g ∙ ap (λ xs. xs ++ b ∷ []) (f ∙ ap (λ xs. xs ++ a ∷ []) e)))
-
-three_are : {X : Type 0} (none one two three : List X) (a b c p q r : X) → none ≡ [] → one ≡ none ++ a ∷ [] → two ≡ one ++ b ∷ [] → three ≡ two ++ c ∷ [] → a ≡ p → b ≡ q → c ≡ r → three ≡ p ∷ (q ∷ (r ∷ []))
-three_are none one two three a b c p q r e f g h x y z = h ∙ ap (λ xs. xs ++ c ∷ []) (g ∙ ap (λ xs. xs ++ b ∷ []) (f ∙ ap (λ xs. xs ++ a ∷ []) e)) ∙ (ap (λ k. k ∷ (b ∷ (c ∷ []))) x ∙ (ap (λ k. p ∷ (k ∷ (c ∷ []))) y ∙ ap (λ k. p ∷ (q ∷ (k ∷ []))) z))
-
 pub returns-clause-joined : goal.returns-clause-joined
-returns-clause-joined c =
-    let ops = four_are _ _ _ _ _ _ _ _ _ c.new-ops.ensures c.in_ok-push.ensures.ok c.in_ok-push-2.ensures.ok c.in_ok-push-3.ensures.ok c.in_ok-push-4.ensures.ok in
-    let links = three_are _ _ _ _ _ _ _ _ _ _ c.new-links.ensures c.in_ok-push-5.ensures.ok c.in_ok-push-6.ensures.ok c.in_ok-push-7.ensures.ok c.link.ensures c.link-2.ensures c.link-3.ensures in
-    subst (λ os. IsJoined (flow_with os c.push-7.new.self)) (sym ops) (subst (λ ls. IsJoined (flow_with (c.args.left ∷ (c.args.right ∷ (c.args.both ∷ (c.args.last ∷ [])))) ls)) (sym links)
-    (joined c.args.left c.args.right c.args.both c.args.last c.requires.left c.requires.right c.requires.both c.requires.last))
+returns-clause-joined c = subst (λ ls. IsJoined (flow_with c.args.ops ls)) (sym c.in_ok-links.ensures) (joined c.args.ops c.requires.four c.requires.stand)
 
 pub returns-clause-known : goal.returns-clause-known
-returns-clause-known c =
-    let ops = four_are _ _ _ _ _ _ _ _ _ c.new-ops.ensures c.in_ok-push.ensures.ok c.in_ok-push-2.ensures.ok c.in_ok-push-3.ensures.ok c.in_ok-push-4.ensures.ok in
-    subst (λ os. HasOnlyKnown (flow_with os c.push-7.new.self)) (sym ops) (c.requires.left.0, (c.requires.right.0, (c.requires.both.0, (c.requires.last.0, tt))))
+returns-clause-known c = each_known c.args.ops c.requires.stand
