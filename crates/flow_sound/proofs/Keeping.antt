@@ -28,7 +28,8 @@ use Rattle.flow_rules.proofs.FlowAll.{faults_all, flow_all}
 use Rattle.flow_rules.proofs.LawProofs.{sinks_meet}
 use Rattle.flow_rules.proofs.VerdictLaws.{accepted_derives, accepted_inserts, accepted_meets}
 use Rattle.flow_rules.specs.Exports.{IsExport, input_of}
-use Rattle.flow_sound.specs.Kinds.{IsOfKind, widths_into}
+use Rattle.flow_sound.specs.Kinds.{IsOfKind}
+use Rattle.flow_ops.specs.Kinds.{widths_into}
 use Rattle.flow_sound.specs.Promise.{AcceptedRun, AcceptedRunsKeep, ShapedFlow, sort_at}
 use Rattle.flow_sound.proofs.ByRow.{link_there, one_link}
 use Rattle.flow_sound.proofs.Fitting.{forms_fit, operators_fit}

@@ -24,6 +24,7 @@ use Rattle.flow_graph.specs.Operators.{Op, group, join, lookup, result}
 use Rattle.flow_graph.specs.Runs.{result_on}
 use Rattle.flow_graph.specs.Shapes.{FitsPorts, HasPort, IsShaped, KeysDistinct}
 use Rattle.flow_ops.specs.Keyed.{aggs_of, group_of, lookup_of}
+use Rattle.flow_ops.specs.Kinds.{joined_by}
 use Rattle.op_group.specs.Results.{in_row_order}
 use Rattle.op_shape.specs.Causes.{first_cause}
 use Rattle.op_shape.specs.Keyed.{result_causes}
@@ -34,7 +35,7 @@ use Rattle.op_shape.proofs.Firsts.{none_head}
 use Rattle.op_shape.proofs.Held.{AreBoth, are_both, held}
 use Rattle.flow_shape.specs.Refusals.{IsShapeOf, fields_at, inputs_at}
 use Rattle.flow_sound.specs.Fitting.{RowsFit}
-use Rattle.flow_sound.specs.Kinds.{IsJoin, IsOfKind}
+use Rattle.flow_sound.specs.Kinds.{IsOfKind}
 use Rattle.flow_sound.proofs.ByKeys.{Come}
 use Rattle.flow_sound.proofs.ByRow.{options_sound, parts_are_at}
 use Rattle.flow_sound.proofs.Groups.{group_fits, group_fits_on, group_shaped, sees_as}
@@ -97,7 +98,7 @@ second_long (fields ∷ (more ∷ ins)) = refl
 abbrev HasBoth : List (List ℕ × Bool) → List (List Field) → OpParts → Type 0
 HasBoth key ins parts = parts.keys ≡ both_keys key ins
 
-join_is : (how : JoinKind) (key : List (List ℕ × Bool)) (ins : List (List Field)) (parts : OpParts) (op : Op) → HasBoth key ins parts → IsJoin how parts (map length ins) op → op ≡ join (joined how key (first_fields ins) (second_fields ins))
+join_is : (how : JoinKind) (key : List (List ℕ × Bool)) (ins : List (List Field)) (parts : OpParts) (op : Op) → HasBoth key ins parts → op ≡ joined_by how parts (map length ins) → op ≡ join (joined how key (first_fields ins) (second_fields ins))
 join_is how key ins parts op e h =
     h
     ∙ ap (λ ks. join (joining how (get_keys ks 0) (get_keys ks 1) (get_or (map length ins) 0 0) (get_or (map length ins) 1 0))) e
@@ -138,7 +139,7 @@ DifferOnBoth key ins = KeysDiffer (key_columns (first_fields ins) key) × KeysDi
 on_both : (key : List (List ℕ × Bool)) (ins : List (List Field)) (parts : OpParts) → HasBoth key ins parts → AllByRecursion KeysDiffer parts.keys → DifferOnBoth key ins
 on_both key ins parts e d = let h = subst (AllByRecursion KeysDiffer) e d in (h.0, h.1.0)
 
-join_suits : (how : JoinKind) (key : List (List ℕ × Bool)) (ins : List (List Field)) (parts : OpParts) (n : ℕ) (op : Op) → HasBoth key ins parts → IsJoin how parts (map length ins) op → n ≡ 2 → AllByRecursion KeysDiffer parts.keys
+join_suits : (how : JoinKind) (key : List (List ℕ × Bool)) (ins : List (List Field)) (parts : OpParts) (n : ℕ) (op : Op) → HasBoth key ins parts → op ≡ joined_by how parts (map length ins) → n ≡ 2 → AllByRecursion KeysDiffer parts.keys
     → SuitsWith ins n (λ q. length (made_fields how key (first_fields ins) (second_fields ins))) op
 join_suits how key ins parts n op e h p d =
     let left = first_fields ins in
@@ -178,7 +179,7 @@ two_come first second (rows ∷ (more ∷ inputs)) h k = (h, (k, tt))
 abbrev pub Gives : List Field → Op → ℕ → List (List Row) → Type 0
 Gives made op q inputs = RowsFit made (result op q inputs) × RowsFit made (result_on op q 0 inputs)
 
-join_gives : (how : JoinKind) (key : List (List ℕ × Bool)) (ins : List (List Field)) (parts : OpParts) (op : Op) (q : ℕ) (inputs : List (List Row)) → HasBoth key ins parts → IsJoin how parts (map length ins) op → AreBoth key (first_fields ins) (second_fields ins) → EachFits ins inputs
+join_gives : (how : JoinKind) (key : List (List ℕ × Bool)) (ins : List (List Field)) (parts : OpParts) (op : Op) (q : ℕ) (inputs : List (List Row)) → HasBoth key ins parts → op ≡ joined_by how parts (map length ins) → AreBoth key (first_fields ins) (second_fields ins) → EachFits ins inputs
     → Gives (made_fields how key (first_fields ins) (second_fields ins)) op q inputs
 join_gives how key ins parts op q inputs e h both f =
     let left = first_fields ins in

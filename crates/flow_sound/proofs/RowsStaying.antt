@@ -25,7 +25,8 @@ use Rattle.op_shape.specs.Options.{IsKeyed, both_keys, first_fields, key_cause, 
 use Rattle.op_shape.proofs.Firsts.{none_head}
 use Rattle.flow_shape.specs.Refusals.{fields_at, inputs_at}
 use Rattle.flow_sound.specs.Fitting.{ColumnsSuit, KeyedRowsStay, RowsFit, RowsStay}
-use Rattle.flow_sound.specs.Kinds.{IsOfKind, widths_into}
+use Rattle.flow_sound.specs.Kinds.{IsOfKind}
+use Rattle.flow_ops.specs.Kinds.{widths_into}
 use Rattle.flow_sound.proofs.ByRow.{one_input, rows_fit, works_at}
 use Rattle.flow_sound.proofs.Fitting.{given_there}
 use Rattle.flow_sound.proofs.Groups.{sums_fit}

@@ -24,7 +24,8 @@ use Rattle.flow_ops.specs.Kept.{if_between}
 use Rattle.flow_rules.specs.Verdicts.{node_at, nodes_of}
 use Rattle.flow_shape.specs.Refusals.{all_ops}
 use Rattle.flow_rules.specs.Exports.{IsExport, input_of}
-use Rattle.flow_sound.specs.Kinds.{IsOfKind, widths_into}
+use Rattle.flow_sound.specs.Kinds.{IsOfKind}
+use Rattle.flow_ops.specs.Kinds.{widths_into}
 use Rattle.flow_sound.specs.Promise.{sort_at}
 use Rattle.flow_sound.specs.Tallies.{ExportIsTallied, RunIsTallied, faults_before, faults_between, faults_read, faults_written, if_export, if_import, tallied}
 use Rattle.flow_sound.proofs.Keeping.{export_bag, export_is, into_export, run_keeps}

@@ -24,7 +24,8 @@ use Rattle.flow_rules.specs.Verdicts.{nodes_of}
 use Rattle.op_shape.specs.Options.{IsKeyed}
 use Rattle.flow_shape.specs.Refusals.{IsShapeOf, fields_at}
 use Rattle.flow_rules.specs.Exports.{IsExport, input_of}
-use Rattle.flow_sound.specs.Kinds.{IsOfKind, widths_into}
+use Rattle.flow_sound.specs.Kinds.{IsOfKind}
+use Rattle.flow_ops.specs.Kinds.{widths_into}
 use Rattle.flow_sound.specs.Promise.{AcceptedRun, ShapedFlow}
 
 -- each row fits these fields

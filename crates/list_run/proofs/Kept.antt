@@ -12,8 +12,9 @@ use Rattle.flow_graph.specs.Operators.{Op}
 use Rattle.flow_graph.specs.RowRules.{row_rule}
 use Rattle.flow_graph.specs.Runs.{result_on, slice}
 use Rattle.flow_ops.specs.Kept.{GivesFields, InputsFit}
-use Rattle.list_run.specs.Made.{made, op_by}
-use Rattle.list_run.specs.Runnable.{IsBuilt, widths_into}
+use Rattle.list_run.specs.Made.{made}
+use Rattle.flow_ops.specs.Kinds.{op_by, widths_into}
+use Rattle.list_run.specs.Runnable.{IsBuilt}
 use Rattle.list_run.proofs.Inputs.{IsBetween, ports_at}
 use Rattle.list_run.proofs.RowsKept.{Each, made_all, rows_all}
 

@@ -23,9 +23,10 @@ use Rattle.list_run.specs.declared.held.Held.{Held}
 use Rattle.list_run.specs.declared.ran.Ran.{Ran}
 use Rattle.list_run.specs.Found.{found_by, found_of}
 use Rattle.list_run.specs.Held.{found_at, inputs_of, sent_by, sent_from}
-use Rattle.list_run.specs.Made.{degree_of, made_by, made_of, op_by}
+use Rattle.list_run.specs.Made.{degree_of, made_by, made_of}
+use Rattle.flow_ops.specs.Kinds.{op_by, widths_into}
 use Rattle.list_run.specs.Routed.{Joins, routed}
-use Rattle.list_run.specs.Runnable.{degree_at, row_count, widths_into, IsBuilt, IsRunnable, IsRunOf, OpIs, OpsAre, worked_faults}
+use Rattle.list_run.specs.Runnable.{degree_at, row_count, IsBuilt, IsRunnable, IsRunOf, OpIs, OpsAre, worked_faults}
 use Rattle.list_run.specs.Turns.{HadTurn, Stands, found_after, got_in, sent_in}
 use Rattle.list_run.proofs.Inputs.{no_member, ports_at, some_inputs}
 use Rattle.list_run.proofs.Links.{all_in, in_from}

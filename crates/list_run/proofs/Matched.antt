@@ -30,7 +30,8 @@ use Rattle.flow_graph.specs.RowRules.{at_op}
 use Rattle.flow_graph.specs.Runs.{result_on}
 use Rattle.flow_ops.specs.Keyed.{join_of, lookup_of}
 use Rattle.list_run.specs.Found.{AreUnnumbered, found_of}
-use Rattle.list_run.specs.Made.{joined_by, made_of}
+use Rattle.list_run.specs.Made.{made_of}
+use Rattle.flow_ops.specs.Kinds.{joined_by}
 use Rattle.list_run.specs.Matched.{LooksUp, Matches}
 use Rattle.list_run.specs.Worked.{AreJoined, AreLooked, HasWorked, outputs_of, place_of}
 use Rattle.list_run.proofs.Grouped.{values_mapped}

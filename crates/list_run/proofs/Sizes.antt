@@ -17,10 +17,11 @@ use Rattle.flow_graph.specs.Runs.{arranged_if, slice}
 use Rattle.flow_derive.specs.LinkStates.{choice_at}
 use Rattle.flow_ops.specs.Kept.{GivesFields}
 use Rattle.list_run.specs.Held.{inputs_of, sent_by, sent_from, sent_on, got_on}
-use Rattle.list_run.specs.Made.{degree_of, made_by, made_of, op_by}
+use Rattle.list_run.specs.Made.{degree_of, made_by, made_of}
+use Rattle.flow_ops.specs.Kinds.{op_by, widths_into}
 use Rattle.list_run.specs.Routed.{Joins, routed}
 use Rattle.flow_rules.specs.Exports.{input_of}
-use Rattle.list_run.specs.Runnable.{degree_at, widths_into, IsBuilt, IsRunnable}
+use Rattle.list_run.specs.Runnable.{degree_at, IsBuilt, IsRunnable}
 use Rattle.list_run.specs.Turns.{lists_after, got_in, sent_in}
 use Rattle.list_run.proofs.Links.{in_from, in_into, from_in}
 use Rattle.list_run.proofs.Inputs.{some_inputs, some_member}

@@ -23,7 +23,8 @@ use Rattle.list_run.specs.Found.{Tallies, found_by}
 use Rattle.list_run.specs.Held.{CameFits, MaySend, Steps, found_at, inputs_of, sent_from, sent_on, got_on, waits}
 use Rattle.list_run.specs.Routed.{Joins, SuitsRoute}
 use Rattle.flow_rules.specs.Exports.{IsExport, input_of}
-use Rattle.list_run.specs.Runnable.{degree_at, row_count, widths_into, IsRunnable}
+use Rattle.list_run.specs.Runnable.{degree_at, row_count, IsRunnable}
+use Rattle.flow_ops.specs.Kinds.{widths_into}
 use Rattle.list_run.specs.Turns.{HadTurn, Stands, found_after, got_in, sent_in}
 use Rattle.list_run.proofs.Inputs.{ports_at, some_member, some_of_one}
 use Rattle.list_run.proofs.Links.{all_in, in_from, in_into}

@@ -22,7 +22,8 @@ use Rattle.list_run.specs.Held.{HasRoom, MaySend, Puts, Moves, Steps, found_at, 
 use Rattle.list_run.specs.Made.{degree_of, made, made_by}
 use Rattle.list_run.specs.Routed.{Joins, SuitsRoute}
 use Rattle.flow_rules.specs.Exports.{IsExport, input_of}
-use Rattle.list_run.specs.Runnable.{degree_at, row_count, widths_into}
+use Rattle.list_run.specs.Runnable.{degree_at, row_count}
+use Rattle.flow_ops.specs.Kinds.{widths_into}
 use Rattle.list_run.proofs.Dealing.{map_same}
 use Rattle.list_run.proofs.Links.{from_in}
 use Rattle.list_run.proofs.Tallying.{grows_as, still}

@@ -27,7 +27,8 @@ use Rattle.flow_graph.specs.RowRules.{ExprsFit, first_expr, sets_of}
 use Rattle.flow_graph.specs.Runs.{slice}
 use Rattle.list_run.specs.Held.{CameFits, inputs_of}
 use Rattle.flow_rules.specs.Exports.{input_of}
-use Rattle.list_run.specs.Runnable.{IsBuilt, SameWays, widths_into}
+use Rattle.list_run.specs.Runnable.{IsBuilt, SameWays}
+use Rattle.flow_ops.specs.Kinds.{widths_into}
 use Rattle.list_run.specs.Worked.{AreJoined, CanWork, IsWorked, SuitsJoin, SuitsLists, SuitsLookup}
 use Rattle.list_run.proofs.Inputs.{one_member, ports_at, some_member, some_of_one, two_members}
 use Rattle.list_run.proofs.Kept.{partition_fits}

@@ -10,7 +10,8 @@ use Rattle.flow_graph.specs.RowRules.{at_op}
 use Rattle.flow_graph.specs.Runs.{faults_on, slice}
 use Rattle.flow_ops.specs.Kept.{if_between}
 use Rattle.list_run.specs.declared.tally.Tally.{Tally}
-use Rattle.list_run.specs.Made.{degree_of, op_by}
+use Rattle.list_run.specs.Made.{degree_of}
+use Rattle.flow_ops.specs.Kinds.{op_by}
 
 -- the number of these faults, as far as they are counted, and the least of them
 pub record Tallies (faults : List Fault) (tally : Tally) : Type 0 where

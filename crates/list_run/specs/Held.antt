@@ -14,7 +14,8 @@ use Rattle.list_run.specs.Found.{Grows, found_by}
 use Rattle.list_run.specs.Made.{made, made_by}
 use Rattle.list_run.specs.Routed.{Joins, SuitsRoute, delivered}
 use Rattle.flow_rules.specs.Exports.{IsExport, input_of}
-use Rattle.list_run.specs.Runnable.{degree_at, row_count, widths_into}
+use Rattle.list_run.specs.Runnable.{degree_at, row_count}
+use Rattle.flow_ops.specs.Kinds.{widths_into}
 use Rattle.list_run.specs.Worked.{place_of}
 
 -- what the operator with the number o puts on a link that leaves its output q, of the partitions that came at its inputs and of the rows that are given for the link

@@ -11,7 +11,7 @@ use Rattle.op_lookup.specs.Laws.{Finds}
 use Rattle.flow_graph.specs.declared.parts.OpParts.{OpParts}
 use Rattle.flow_graph.specs.Runs.{result_on}
 use Rattle.flow_ops.specs.Keyed.{lookup_of}
-use Rattle.list_run.specs.Made.{joined_by}
+use Rattle.flow_ops.specs.Kinds.{joined_by}
 use Rattle.run_ports.specs.PortLists.{list_of}
 
 -- what a join gives for these lists was emitted, and nothing else

@@ -9,16 +9,15 @@ use Rattle.op_base.specs.Emits.{counted, least_of}
 use Rattle.op_base.specs.Keyed.{get_keys}
 use Rattle.op_base.specs.Lists.{joined}
 use Rattle.op_base.specs.Meanings.{Line}
-use Rattle.op_base.specs.RowOperators.{copy_rule, sink_rule}
+use Rattle.op_base.specs.RowOperators.{sink_rule}
 use Rattle.op_join.specs.declared.kind.JoinKind.TheVariants.{Inner, Left, Right, Full}
 use Rattle.flow_graph.specs.declared.op_kind.OpKind.{OpKind}
 use Rattle.flow_graph.specs.declared.op_kind.OpKind.TheVariants as kind
 use Rattle.flow_graph.specs.declared.route.Choice.{Choice}
-use Rattle.flow_graph.specs.Charts.{Chart, link_at, all_links, links_into, links_from, op_at, is_seq, into_seq, keys_at, cols_at, parts_of, first_fields, width_at}
+use Rattle.flow_graph.specs.Charts.{Chart, link_at, all_links, links_from, op_at, is_seq, into_seq, keys_at, cols_at, parts_of, first_fields}
 use Rattle.flow_graph.specs.Fitting.{FitsFields, KeepsFields, PassesFields}
 use Rattle.flow_graph.specs.FlowShape.{IsShape}
-use Rattle.flow_graph.specs.Operators.{Op, import, by_row, tsort, remdup, group, result}
-use Rattle.flow_graph.specs.RowRules.{row_rule}
+use Rattle.flow_graph.specs.Operators.{Op, import, by_row, group, result}
 use Rattle.flow_graph.specs.Runs.{Lists, Runs}
 use Rattle.flow_derive.specs.LinkStates.{choice_at}
 use Rattle.flow_rules.specs.Exports.{IsExport, input_of}
@@ -26,16 +25,12 @@ use Rattle.flow_rules.specs.Verdicts.{nodes_of}
 use Rattle.flow_ops.specs.Keyed.{aggs_of, group_of}
 use Rattle.flow_ops.specs.Kept.{GivesFields, SumsFit, if_between}
 use Rattle.list_run.specs.declared.ran.Ran.{Ran}
-use Rattle.list_run.specs.Made.{joined_by, looked_by}
+use Rattle.flow_ops.specs.Kinds.{IsBetween, joined_by, looked_by, widths_into}
 use Rattle.list_run.specs.Routed.{Joins}
 
 -- a sequential operator has one partition, another has as many as there are nodes
 abbrev pub degree_at : Chart → ℕ → ℕ → ℕ
 degree_at c nodes o = cond (is_seq (op_at c o).mark) 1 nodes
-
--- the widths of the links into an operator, by port
-abbrev pub widths_into : Chart → ℕ → List ℕ
-widths_into c o = map (width_at c) (links_into c o)
 
 -- the keys of two inputs ascend and descend alike
 abbrev pub SameWays : Chart → ℕ → Type 0
@@ -81,20 +76,7 @@ IsImport op = (lines : List Line) × (rejects : Bool) × (beyond : List Fault) �
 abbrev pub OpIs : Chart → List (List Row) → ℕ → Op → OpKind → Type 0
 OpIs c sources o op (kind.Import file schema delim fixed reject) = IsImport op × ((l : ℕ) → IsIn l (links_from c o) → result op (link_at c l).out [] ≡ get_or sources l [])
 OpIs c sources o op (kind.Export file delim fixed) = (unwritable : Row → List Fault) × (op ≡ by_row (sink_rule unwritable))
-OpIs c sources o op kind.Copy = op ≡ by_row copy_rule
-OpIs c sources o op (kind.Filter test reject) = op ≡ by_row (row_rule o (kind.Filter test reject) (parts_of c o))
-OpIs c sources o op (kind.Transform set reject) = op ≡ by_row (row_rule o (kind.Transform set reject) (parts_of c o))
-OpIs c sources o op (kind.Modify keep drop rename) = op ≡ by_row (row_rule o (kind.Modify keep drop rename) (parts_of c o))
-OpIs c sources o op (kind.Switch on cases reject) = op ≡ by_row (row_rule o (kind.Switch on cases reject) (parts_of c o))
-OpIs c sources o op (kind.Tsort key) = op ≡ tsort (get_keys (keys_at c o) 0)
-OpIs c sources o op (kind.Remdup key last) = op ≡ remdup last (get_keys (keys_at c o) 0)
-OpIs c sources o op (kind.Group key hash results) = op ≡ group (group_of o hash results (parts_of c o))
-OpIs c sources o op (kind.InnerJoin key) = op ≡ joined_by Inner (parts_of c o) (widths_into c o)
-OpIs c sources o op (kind.LeftOuterJoin key) = op ≡ joined_by Left (parts_of c o) (widths_into c o)
-OpIs c sources o op (kind.RightOuterJoin key) = op ≡ joined_by Right (parts_of c o) (widths_into c o)
-OpIs c sources o op (kind.FullOuterJoin key) = op ≡ joined_by Full (parts_of c o) (widths_into c o)
-OpIs c sources o op (kind.Lookup key missing) = op ≡ looked_by o missing (parts_of c o) (widths_into c o)
-OpIs c sources o op k = ⊥
+OpIs c sources o op k = IsBetween o k (parts_of c o) (widths_into c o) op
 
 abbrev pub OpsAre : Chart → List (List Row) → (ℕ → Op) → Type 0
 OpsAre c sources ops = (o : ℕ) → o < length c.flow.ops → OpIs c sources o (ops o) (op_at c o).kind

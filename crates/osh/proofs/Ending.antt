@@ -8,7 +8,7 @@ use Rattle.osh_call.specs.Saying.{err_line, answer_status, IsMade, SaidAs}
 use Rattle.osh_ends.specs.Ends.{End, ComesTo, OneStatus, end_status, absent, bad_config, bad_flow, bad_shape, crowded, mismatch}
 use Rattle.flow_outputs.specs.Outputs.{with_files}
 use Rattle.osh_ends.specs.Leaves.{Broke, Ended, IsComplete, IsExact, Leaves, Runs, Tells, line, outputs, printed}
-use Rattle.osh.specs.Calls.{Calls, IsStatus}
+use Rattle.osh.specs.Calls.{IsStatus}
 
 -- an answer's line and status are those of its end
 line_is : (a : Answer) (end : End) → Answers a end → err_line a ≡ line end
@@ -135,6 +135,6 @@ said_device a said (inr e) h = let same = sym (e.0) ∙ is_device said h in absu
 -- the whole call, from how it was served and what was said
 pub said_calls : (words : List (List ℕ)) (old new : FileMap) (tells : Bool) (out_old out_new : List ℕ) (files_rose out_rose : Type 0) (err_tells : Bool) (err_before err_now : ℕ) (err_old err_new : List ℕ) (a said : Answer) (status : ℕ)
     → Serves (ComesTo words old) old new tells out_old out_new files_rose out_rose a → SaidAs a said → status ≡ answer_status said → (IsTrue err_tells → Tells (err_line said) err_before err_now err_old err_new)
-    → Calls words old new tells out_old out_new files_rose out_rose err_tells err_before err_now err_old err_new status
+    → (said_line : List ℕ) × Runs words old new tells out_old out_new files_rose out_rose said_line status × (IsTrue err_tells → Tells said_line err_before err_now err_old err_new)
 said_calls words old new tells out_old out_new files_rose out_rose err_tells err_before err_now err_old err_new a said status s said_as is told =
     (err_line said, subst (Runs words old new tells out_old out_new files_rose out_rose (err_line said)) (sym is) (said_runs words old new tells out_old out_new files_rose out_rose a said s said_as), told)

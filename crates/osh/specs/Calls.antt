@@ -1,15 +1,27 @@
 -- A whole call of the program.
 use Rattle.std.specs.Prelude.{◌≡◌, ◌⊎◌, ◌≤◌, ℕ, Bool, true, false, IsTrue, List}
+use Rattle.ds_port.specs.Causes.{Rose}
 use Rattle.ds_port.specs.FileMap.{FileMap}
 use Rattle.osh_ends.specs.Leaves.{Runs, Tells}
 use Rattle.osh_words.specs.declared.command.Command.{Command}
 use Rattle.osh_words.specs.declared.command.Command.TheVariants as command
 use Rattle.osh_words.specs.Spelled.{Spells}
 
+-- An object of a call: whether it tells what it holds, what it held before and holds after the call, and how often it had failed before and has failed after it.
+pub record Object (A : Type 0) : Type 0 where
+  pub tells : Bool
+  pub old : A
+  pub new : A
+  pub before : ℕ
+  pub now : ℕ
+
+abbrev pub HasFailed : {A : Type 0} → Object A → Type 0
+HasFailed object = Rose object.before object.now
+
 -- what it leaves in files and on out, and its status, with its line on err, or a part of the line where err failed
-abbrev pub Calls : List (List ℕ) → FileMap → FileMap → (out_tells : Bool) → List ℕ → List ℕ → (files_rose out_rose : Type 0) → (err_tells : Bool) → ℕ → ℕ → List ℕ → List ℕ → ℕ → Type 0
-Calls words old new out_tells out_old out_new files_rose out_rose err_tells err_before err_now err_old err_new status =
-    (line : List ℕ) × Runs words old new out_tells out_old out_new files_rose out_rose line status × (IsTrue err_tells → Tells line err_before err_now err_old err_new)
+abbrev pub Calls : List (List ℕ) → (files : Object FileMap) → (out err : Object (List ℕ)) → ℕ → Type 0
+Calls words files out err status =
+    IsTrue files.tells → (line : List ℕ) × Runs words files.old files.new out.tells out.old out.new (HasFailed files) (HasFailed out) line status × (IsTrue err.tells → Tells line err.before err.now err.old err.new)
 
 -- 0 to 10, or 12
 abbrev pub IsStatus : ℕ → Type 0

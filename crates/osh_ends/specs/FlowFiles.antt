@@ -1,26 +1,22 @@
 -- What the files make of a flow: which inputs are missing, what each operator is, and what the flow means.
-use Rattle.std.specs.Prelude.{◌≡◌, ◌<◌, ℕ, List, [], ◌∷◌, length, map, get_or, Option, Some, None}
+use Rattle.std.specs.Prelude.{◌≡◌, ◌<◌, ℕ, List, [], ◌∷◌, length, get_or, Option, Some, None}
 use Rattle.std.specs.List.{AllByRecursion}
 use Rattle.ds_schema.specs.declared.schema.Field.{Field}
 use Rattle.ds_port.specs.FileMap.{FileMap, file_at}
 use Rattle.op_base.specs.Columns.{Row}
-use Rattle.op_base.specs.Keyed.{get_keys}
-use Rattle.op_base.specs.Meanings.{Join, Line}
-use Rattle.op_base.specs.RowOperators.{copy_rule, sink_rule}
+use Rattle.op_base.specs.Meanings.{Line}
+use Rattle.op_base.specs.RowOperators.{sink_rule}
 use Rattle.ds_text.specs.declared.form.Form.{Form}
 use Rattle.ds_text.specs.declared.form.Form.TheVariants.{Delimited, Fixed}
-use Rattle.op_join.specs.declared.kind.JoinKind.{JoinKind}
-use Rattle.op_join.specs.declared.kind.JoinKind.TheVariants.{Inner, Left, Right, Full}
 use Rattle.flow_files.specs.Lines.{AreLines, beyond}
 use Rattle.flow_files.specs.Texts.{export_faults}
-use Rattle.flow_graph.specs.Charts.{Chart, op_at, keys_at, links_into, parts_of, width_at}
-use Rattle.flow_graph.specs.Operators.{Op, import, by_row, tsort, remdup, group, join, lookup}
-use Rattle.flow_graph.specs.RowRules.{row_rule}
+use Rattle.flow_graph.specs.Charts.{Chart, op_at, parts_of}
+use Rattle.flow_graph.specs.Operators.{Op, import, by_row}
 use Rattle.flow_graph.specs.Runs.{Means}
 use Rattle.flow_graph.specs.declared.flow.OpSpec.{OpSpec}
 use Rattle.flow_graph.specs.declared.op_kind.OpKind.{OpKind}
 use Rattle.flow_graph.specs.declared.op_kind.OpKind.TheVariants as kind
-use Rattle.flow_ops.specs.Keyed.{group_of, join_of, lookup_of}
+use Rattle.flow_ops.specs.Kinds.{IsBetween, widths_into}
 use Rattle.flow_rules.specs.Exports.{input_of}
 use Rattle.flow_rules.specs.Verdicts.{nodes_of}
 
@@ -50,32 +46,12 @@ abbrev pub form : ℕ → Option (List ℕ) → Form
 form delim None = Delimited delim
 form delim (Some widths) = Fixed widths
 
--- the widths of an operator's inputs, by port
-abbrev pub widths_into : Chart → ℕ → List ℕ
-widths_into c o = map (width_at c) (links_into c o)
-
-abbrev pub join_at : Chart → ℕ → JoinKind → Join
-join_at c o k = join_of k (parts_of c o) (get_or (widths_into c o) 0 0) (get_or (widths_into c o) 1 0)
-
 -- the lines of its file decide an import, the columns of its input which rows an export can't write
 abbrev pub IsOp : FileMap → Chart → ℕ → OpKind → Op → Type 0
 IsOp files c o (kind.Import file schema delim fixed reject) op =
     (bytes : List ℕ) × (lines : List Line) × (file_at files file ≡ Some bytes) × AreLines (form delim fixed) schema o bytes lines × (op ≡ import lines reject (beyond o bytes))
 IsOp files c o (kind.Export file delim fixed) op = op ≡ by_row (sink_rule (export_faults o (form delim fixed) (fields_of c (input_of c o))))
-IsOp files c o kind.Copy op = op ≡ by_row copy_rule
-IsOp files c o (kind.Filter test reject) op = op ≡ by_row (row_rule o (kind.Filter test reject) (parts_of c o))
-IsOp files c o (kind.Transform set reject) op = op ≡ by_row (row_rule o (kind.Transform set reject) (parts_of c o))
-IsOp files c o (kind.Modify keep drop rename) op = op ≡ by_row (row_rule o (kind.Modify keep drop rename) (parts_of c o))
-IsOp files c o (kind.Switch on cases reject) op = op ≡ by_row (row_rule o (kind.Switch on cases reject) (parts_of c o))
-IsOp files c o (kind.Tsort key) op = op ≡ tsort (get_keys (keys_at c o) 0)
-IsOp files c o (kind.Remdup key last) op = op ≡ remdup last (get_keys (keys_at c o) 0)
-IsOp files c o (kind.Group key hash results) op = op ≡ group (group_of o hash results (parts_of c o))
-IsOp files c o (kind.InnerJoin key) op = op ≡ join (join_at c o Inner)
-IsOp files c o (kind.LeftOuterJoin key) op = op ≡ join (join_at c o Left)
-IsOp files c o (kind.RightOuterJoin key) op = op ≡ join (join_at c o Right)
-IsOp files c o (kind.FullOuterJoin key) op = op ≡ join (join_at c o Full)
-IsOp files c o (kind.Lookup key missing) op = op ≡ lookup (lookup_of o missing (parts_of c o) (get_or (widths_into c o) 0 0) (get_or (widths_into c o) 1 0))
-IsOp files c o k op = ⊥
+IsOp files c o k op = IsBetween o k (parts_of c o) (widths_into c o) op
 
 -- the operators of a flow over these files, and what it means: the whole list on each link
 pub record IsMeaning (files : FileMap) (c : Chart) (ops : ℕ → Op) (whole : ℕ → List Row) : Type 0 where

@@ -27,8 +27,8 @@ use Rattle.flow_sound.specs.Tallies.{faults_read, if_import}
 use Rattle.flow_sound.proofs.Members.{below_range}
 use Rattle.osh_ends.specs.Built.{is_built_op}
 use Rattle.flow_rules.specs.Exports.{input_of}
-use Rattle.osh_ends.specs.FlowFiles.{IsOp, fields_of, form, widths_into}
-use Rattle.list_run.specs.Made.{joined_by, looked_by}
+use Rattle.osh_ends.specs.FlowFiles.{IsOp, fields_of, form}
+use Rattle.flow_ops.specs.Kinds.{joined_by, looked_by, widths_into}
 use Rattle.run_feed.specs.Sources.{AllSuit, ReadTo, ReadsFile, RowsSuit, rows_read}
 
 pub at_item : (ops : List OpSpec) (i : ℕ) (x : OpSpec) → i < length ops → x ≡ get_or ops i x → x ≡ get_or ops i no_op

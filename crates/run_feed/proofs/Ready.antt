@@ -35,11 +35,11 @@ use Rattle.flow_shape.proofs.Causing.{all_at}
 use Rattle.flow_shape.proofs.Holding.{first_of}
 use Rattle.flow_shape.proofs.Orders.{and_parts}
 use Rattle.flow_sound.specs.Fitting.{ColumnsSuit, IsByRow}
-use Rattle.flow_sound.specs.Kinds.{IsOfKind, widths_into}
+use Rattle.flow_sound.specs.Kinds.{IsOfKind}
 use Rattle.flow_sound.proofs.Fitting.{given_there}
 use Rattle.flow_sound.proofs.Order.{leaves_it}
 use Rattle.flow_sound.proofs.RowsStaying.{keyed_rows_stay, rows_stay}
-use Rattle.list_run.specs.Made.{joined_by, looked_by}
+use Rattle.flow_ops.specs.Kinds.{joined_by, looked_by, widths_into}
 use Rattle.list_run.specs.Routed.{Joins}
 use Rattle.list_run.specs.Runnable.{CanRun, IsBuilt, degree_at}
 use Rattle.osh_ends.specs.Built.{is_built, is_built_link, is_built_method, is_built_op, is_prop, needs_sort}

@@ -29,10 +29,10 @@ use Rattle.flow_graph.specs.RowRules.{row_rule}
 use Rattle.op_shape.specs.Options.{line_fields, made_or_rejected, output_fields}
 use Rattle.flow_shape.specs.Refusals.{IsShapeOf, fields_at, inputs_at}
 use Rattle.flow_ops.specs.Keyed.{group_of}
-use Rattle.flow_sound.specs.Kinds.{AreOfKinds, IsOfKind, LineFits, widths_into}
+use Rattle.flow_sound.specs.Kinds.{AreOfKinds, IsOfKind, LineFits}
 use Rattle.flow_sound.proofs.Fitting.{given_there}
 use Rattle.flow_sound.proofs.Order.{leaves_it}
-use Rattle.list_run.specs.Made.{joined_by, looked_by}
+use Rattle.flow_ops.specs.Kinds.{joined_by, looked_by, widths_into}
 use Rattle.list_run.specs.Runnable.{OpIs}
 use Rattle.osh_ends.specs.Built.{is_built, is_built_op}
 use Rattle.flow_rules.specs.Exports.{input_of}

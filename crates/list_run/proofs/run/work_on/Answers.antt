@@ -7,7 +7,7 @@ use Rattle.flow_graph.specs.Charts.{op_at, no_op, parts_of}
 use Rattle.list_run.specs.declared.held.Held.{Held}
 use Rattle.list_run.specs.Found.{Grows, found_by}
 use Rattle.list_run.specs.Held.{inputs_of, out_on, outputs, waits, worked_at}
-use Rattle.list_run.specs.Runnable.{widths_into}
+use Rattle.flow_ops.specs.Kinds.{widths_into}
 use Rattle.list_run.specs.Worked.{AreMade, CanWork, IsWorked}
 use Rattle.list_run.proofs.Links.{same_at}
 use Rattle.list_run.proofs.Puts.{put_sent}
