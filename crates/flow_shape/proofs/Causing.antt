@@ -7,11 +7,11 @@ use Rattle.flow_graph.specs.declared.flow.Flow.{Flow}
 use Rattle.flow_graph.specs.declared.flow.OpSpec.{OpSpec}
 use Rattle.flow_graph.specs.declared.op_kind.OpKind.{OpKind}
 use Rattle.flow_graph.specs.declared.op_kind.OpKind.TheVariants as kind
-use Rattle.op_shape.specs.declared.fault.ShapeWhy.{ShapeWhy}
-use Rattle.op_shape.specs.Causes.{first_cause}
+use Rattle.shape_base.specs.declared.fault.ShapeWhy.{ShapeWhy}
+use Rattle.shape_base.specs.Causes.{first_cause}
 use Rattle.op_shape.specs.Options.{IsKnown, option_causes, output_causes}
 use Rattle.flow_shape.specs.Refusals.{HasOnlyKnown, chart_of, inputs_at, input_cause, operator_cause}
-use Rattle.op_shape.proofs.Firsts.{or_else, first_both}
+use Rattle.shape_base.proofs.Firsts.{or_else, first_both}
 
 pub all_at : {X : Type 0} (P : X → Type 0) (xs : List X) (i : ℕ) (d : X) → AllByRecursion P xs → i < length xs → P (get_or xs i d)
 all_at P [] i d a h = absurd (omega arith)

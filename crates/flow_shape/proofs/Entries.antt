@@ -7,13 +7,13 @@ use Rattle.ds_schema.specs.declared.schema.Field.{Field}
 use Rattle.flow_graph.specs.Charts.{no_link, links_into}
 use Rattle.flow_graph.specs.declared.flow.Flow.{Flow}
 use Rattle.flow_graph.specs.declared.flow.LinkSpec.{LinkSpec}
-use Rattle.op_shape.specs.declared.fault.ShapeWhy.{ShapeWhy}
-use Rattle.op_shape.specs.Causes.{first_cause}
+use Rattle.shape_base.specs.declared.fault.ShapeWhy.{ShapeWhy}
+use Rattle.shape_base.specs.Causes.{first_cause}
 use Rattle.flow_shape.specs.Refusals.{chart_of, inputs_at, input_cause, fields_at}
-use Rattle.op_shape.proofs.Firsts.{or_else}
+use Rattle.shape_base.proofs.Firsts.{or_else}
 use Rattle.flow_shape.proofs.Firsts.{first_next}
 use Rattle.flow_shape.proofs.Numbers.{numbers, numbers_of}
-use Rattle.op_shape.proofs.Keeping.{range_more}
+use Rattle.shape_base.proofs.Lists.{range_more}
 
 pub into_numbers : (flow : Flow) (schemas : List (List Field)) (o : ℕ) → links_into (chart_of flow schemas) o ≡ numbers (λ (k : LinkSpec). k.to == o) 0 flow.links
 into_numbers flow schemas o = numbers_of (λ (k : LinkSpec). k.to == o) flow.links

@@ -14,13 +14,13 @@ use Rattle.flow_graph.specs.declared.flow.OpSpec.{OpSpec}
 use Rattle.flow_graph.specs.declared.op_kind.OpKind.{OpKind}
 use Rattle.flow_graph.specs.declared.op_kind.OpKind.TheVariants as kind
 use Rattle.flow_graph.specs.declared.route.Route.TheVariants as route
-use Rattle.op_shape.specs.declared.fault.ShapeWhy.TheVariants as why
+use Rattle.shape_base.specs.declared.fault.ShapeWhy.TheVariants as why
 use Rattle.flow_shape.specs.Files.{names_clash}
 use Rattle.flow_shape.specs.Links.{OnCycle, is_ready}
 use Rattle.flow_shape.specs.Methods.{method_cause, written_route}
 use Rattle.flow_shape.specs.Ports.{ports_fit}
 use Rattle.flow_shape.specs.Refusals.{chart_of, operator_cause, given_on}
-use Rattle.op_shape.specs.Widths.{fields_cause}
+use Rattle.shape_base.specs.Widths.{fields_cause}
 
 -- names of files
 part_clashes : names_clash (codes "a") (codes "a.part") ≡ true

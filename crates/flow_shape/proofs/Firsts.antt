@@ -1,9 +1,9 @@
 -- The first cause of several places, where the places are those of the links that pass a test.
 use Rattle.std.proofs.Common.{◌≡◌, ◌+◌, ◌∷◌, ℕ, List, Bool, true, false, Option, Some, None, cond, refl, map}
 use Rattle.flow_graph.specs.declared.flow.LinkSpec.{LinkSpec}
-use Rattle.op_shape.specs.declared.fault.ShapeWhy.{ShapeWhy}
-use Rattle.op_shape.specs.Causes.{first_cause}
-use Rattle.op_shape.proofs.Firsts.{or_else}
+use Rattle.shape_base.specs.declared.fault.ShapeWhy.{ShapeWhy}
+use Rattle.shape_base.specs.Causes.{first_cause}
+use Rattle.shape_base.proofs.Firsts.{or_else}
 use Rattle.flow_shape.proofs.Numbers.{numbers}
 
 head_by : (x : Bool) (c : Option ShapeWhy) (f : ℕ → Option ShapeWhy) (a : ℕ) (ns : List ℕ) → cond x (f a) None ≡ c → first_cause (map f (cond x (a ∷ ns) ns)) ≡ or_else c (first_cause (map f ns))

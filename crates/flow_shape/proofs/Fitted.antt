@@ -12,13 +12,14 @@ use Rattle.flow_graph.specs.declared.op_kind.OpKind.TheVariants as kind
 use Rattle.flow_graph.specs.declared.parts.OpParts.{OpParts}
 use Rattle.flow_graph.specs.FlowShape.{ColumnsLie, FewKept}
 use Rattle.flow_graph.specs.RowRules.{ExprsFit}
-use Rattle.op_shape.specs.Causes.{first_cause}
+use Rattle.shape_base.specs.Causes.{first_cause}
 use Rattle.op_shape.specs.Columns.{set_columns, set_fields, kept_columns}
-use Rattle.op_shape.specs.Keyed.{source_columns}
-use Rattle.op_shape.specs.Options.{IsKnown, OptionsStand, first_fields, option_causes, output_causes, output_fields, operator_columns}
+use Rattle.keyed_shape.specs.Keyed.{source_columns}
+use Rattle.op_shape.specs.Options.{IsKnown, OptionsStand, option_causes, output_causes, output_fields, operator_columns}
+use Rattle.shape_base.specs.Fields.{first_fields}
 use Rattle.op_shape.proofs.Fit.{FewCases, kept, modify_lies}
 use Rattle.op_shape.proofs.Putting.{sets_lie}
-use Rattle.op_shape.proofs.Joined.{is_grouped, sources_lie}
+use Rattle.keyed_shape.proofs.Joined.{is_grouped, sources_lie}
 use Rattle.flow_shape.specs.Ports.{may_have_in, may_have_out, with_reject}
 use Rattle.flow_shape.specs.Refusals.{chart_of, inputs_at, given_on, Fits}
 

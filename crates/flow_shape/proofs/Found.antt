@@ -19,7 +19,8 @@ use Rattle.flow_shape.specs.Lowest.{HasNone}
 use Rattle.flow_shape.specs.Files.{Clashes}
 use Rattle.flow_shape.specs.Links.{IsOrder, IsWhole, OnCycle}
 use Rattle.flow_shape.specs.Methods.{written_route}
-use Rattle.op_shape.specs.Options.{KeysDistinct, OptionsStand, first_fields, operator_parts}
+use Rattle.op_shape.specs.Options.{KeysDistinct, OptionsStand, operator_parts}
+use Rattle.shape_base.specs.Fields.{first_fields}
 use Rattle.flow_shape.specs.Ports.{WrongPorts, may_have_in, count_in, count_out}
 use Rattle.flow_shape.specs.Refusals.{HasOnlyKnown, chart_of, inputs_at, AllFit, IsShapeOf, parts_at, written_at, stored_at}
 use Rattle.flow_shape.specs.Spelled.{IsJoined}

@@ -18,14 +18,15 @@ use Rattle.flow_graph.specs.declared.op_kind.OpKind.{OpKind}
 use Rattle.flow_graph.specs.declared.op_kind.OpKind.TheVariants as kind
 use Rattle.flow_graph.specs.declared.parts.Stored.{Stored}
 use Rattle.flow_graph.specs.FlowShape.{WrittenFits, FormHasPort, FormFills, FormPorts, ColumnsLie, FewKept}
-use Rattle.op_shape.specs.declared.fault.ShapeWhy.TheVariants as why
-use Rattle.op_shape.specs.Causes.{first_cause, cause_if}
+use Rattle.shape_base.specs.declared.fault.ShapeWhy.TheVariants as why
+use Rattle.shape_base.specs.Causes.{first_cause, cause_if}
 use Rattle.flow_shape.specs.Lowest.{HasNone}
 use Rattle.flow_shape.specs.Methods.{may_stand, all_named, written_route}
-use Rattle.op_shape.specs.Naming.{is_named, has_column, has_columns, has_keys, column, columns, key_columns}
-use Rattle.op_shape.specs.Options.{IsKnown, KeysDistinct, first_fields, option_causes, output_causes, operator_keys}
+use Rattle.shape_base.specs.Naming.{is_named, has_column, has_columns, has_keys, column, columns, key_columns}
+use Rattle.op_shape.specs.Options.{IsKnown, KeysDistinct, option_causes, output_causes, operator_keys}
+use Rattle.shape_base.specs.Fields.{first_fields}
 use Rattle.flow_shape.specs.Ports.{may_have_in, count_in, WrongPorts}
-use Rattle.op_shape.proofs.Held.{column_in, names_lie, keys_lie}
+use Rattle.shape_base.proofs.Held.{column_in, names_lie, keys_lie}
 use Rattle.flow_shape.specs.Links.{AreWithin}
 use Rattle.flow_shape.specs.Refusals.{HasOnlyKnown}
 use Rattle.flow_shape.proofs.Causing.{known_at}

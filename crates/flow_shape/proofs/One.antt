@@ -9,7 +9,7 @@ use Rattle.flow_graph.specs.declared.flow.Flow.{Flow}
 use Rattle.flow_graph.specs.declared.parts.OpParts.{OpParts}
 use Rattle.flow_graph.specs.declared.parts.Stored.{Stored}
 use Rattle.flow_graph.specs.declared.route.Route.{Route}
-use Rattle.op_shape.specs.declared.fault.ShapeWhy.{ShapeWhy}
+use Rattle.shape_base.specs.declared.fault.ShapeWhy.{ShapeWhy}
 use Rattle.flow_shape.specs.Answers.{OneShape, ShapeOrFault, OneFault}
 use Rattle.flow_shape.specs.Lowest.{IsLowest, HasNone}
 use Rattle.flow_shape.specs.Files.{Clashes}

@@ -5,7 +5,7 @@ use Rattle.std.proofs.lemmas.Bool.{eqb-true}
 use Rattle.ds_schema.specs.declared.schema.Field.{Field}
 use Rattle.flow_graph.specs.Charts.{no_link, no_op, is_seq}
 use Rattle.flow_graph.specs.declared.flow.Flow.{Flow}
-use Rattle.op_shape.specs.Causes.{first_cause}
+use Rattle.shape_base.specs.Causes.{first_cause}
 use Rattle.flow_shape.specs.Methods.{method_cause}
 use Rattle.op_shape.specs.Options.{option_causes, output_causes, output_fields}
 use Rattle.flow_shape.specs.Refusals.{chart_of, inputs_at, input_cause, operator_cause, given_on, Fits}

@@ -6,13 +6,13 @@ use Rattle.ds_schema.specs.declared.schema.Field.{Field}
 use Rattle.flow_graph.specs.Charts.{no_link, no_op, is_seq}
 use Rattle.flow_graph.specs.declared.flow.Flow.{Flow}
 use Rattle.flow_graph.specs.declared.flow.Method.{Method}
-use Rattle.op_shape.specs.declared.fault.ShapeWhy.{ShapeWhy}
-use Rattle.op_shape.specs.declared.fault.ShapeWhy.TheVariants as why
-use Rattle.op_shape.specs.Causes.{first_cause, cause_if}
+use Rattle.shape_base.specs.declared.fault.ShapeWhy.{ShapeWhy}
+use Rattle.shape_base.specs.declared.fault.ShapeWhy.TheVariants as why
+use Rattle.shape_base.specs.Causes.{first_cause, cause_if}
 use Rattle.flow_shape.specs.Methods.{may_stand, all_named, kinds_suit, method_cause}
 use Rattle.op_shape.specs.Options.{option_causes, output_causes}
 use Rattle.flow_shape.specs.Refusals.{chart_of, inputs_at, input_cause, operator_cause}
-use Rattle.op_shape.proofs.Firsts.{none_both}
+use Rattle.shape_base.proofs.Firsts.{none_both}
 
 alone : (c : Option ShapeWhy) → first_cause (c ∷ []) ≡ None → c ≡ None
 alone None h = refl

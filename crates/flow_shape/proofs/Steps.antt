@@ -7,7 +7,7 @@ use Rattle.ds_schema.specs.declared.schema.Field.{Field}
 use Rattle.flow_graph.specs.Charts.{no_link}
 use Rattle.flow_graph.specs.declared.flow.Flow.{Flow}
 use Rattle.flow_graph.specs.declared.flow.LinkSpec.{LinkSpec}
-use Rattle.op_shape.specs.declared.fault.ShapeWhy.{ShapeWhy}
+use Rattle.shape_base.specs.declared.fault.ShapeWhy.{ShapeWhy}
 use Rattle.flow_shape.specs.Giving.{HasGiven}
 use Rattle.flow_shape.specs.Links.{feeds, is_done, is_ready, Follows, IsOrder}
 use Rattle.flow_shape.specs.Refusals.{chart_of, operator_cause, Fits, FirstFault}

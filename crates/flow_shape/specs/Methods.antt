@@ -8,10 +8,10 @@ use Rattle.flow_graph.specs.declared.flow.Method.{Method}
 use Rattle.flow_graph.specs.declared.flow.Method.TheVariants as method
 use Rattle.flow_graph.specs.declared.route.Route.{Route}
 use Rattle.flow_graph.specs.declared.route.Route.TheVariants as route
-use Rattle.op_shape.specs.declared.fault.ShapeWhy.{ShapeWhy}
-use Rattle.op_shape.specs.declared.fault.ShapeWhy.TheVariants as why
-use Rattle.op_shape.specs.Causes.{cause_if, first_cause}
-use Rattle.op_shape.specs.Naming.{is_named, has_column, has_columns, has_keys, column, columns, key_columns, NamesDiffer}
+use Rattle.shape_base.specs.declared.fault.ShapeWhy.{ShapeWhy}
+use Rattle.shape_base.specs.declared.fault.ShapeWhy.TheVariants as why
+use Rattle.shape_base.specs.Causes.{cause_if, first_cause}
+use Rattle.shape_base.specs.Naming.{is_named, has_column, has_columns, has_keys, column, columns, key_columns, NamesDiffer}
 
 -- whether a method may stand on a link into a sequential operator, or into a parallel one
 abbrev pub may_stand : Bool → Method → Bool

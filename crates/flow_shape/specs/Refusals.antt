@@ -13,9 +13,9 @@ use Rattle.flow_graph.specs.declared.parts.Stored.{Stored}
 use Rattle.flow_graph.specs.declared.route.Route.{Route}
 use Rattle.flow_shape.specs.declared.fault.ShapeFault.{ShapeFault}
 use Rattle.flow_shape.specs.declared.fault.ShapeFault.TheVariants as fault
-use Rattle.op_shape.specs.declared.fault.ShapeWhy.{ShapeWhy}
-use Rattle.op_shape.specs.declared.fault.ShapeWhy.TheVariants as why
-use Rattle.op_shape.specs.Causes.{first_cause}
+use Rattle.shape_base.specs.declared.fault.ShapeWhy.{ShapeWhy}
+use Rattle.shape_base.specs.declared.fault.ShapeWhy.TheVariants as why
+use Rattle.shape_base.specs.Causes.{first_cause}
 use Rattle.flow_shape.specs.Lowest.{IsLowest, HasNone}
 use Rattle.flow_shape.specs.Files.{Clashes}
 use Rattle.flow_shape.specs.Links.{OnCycle, IsOrder, IsWhole}

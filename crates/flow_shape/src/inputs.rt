@@ -1,6 +1,6 @@
 ghost use Rattle.std.specs.Prelude.{◌≡◌, ◌<◌, ◌==◌, cond, map, length, get_or, None, IfOk};
 ghost use Rattle.flow_graph.specs.Charts.{no_op, no_link, is_seq, links_into};
-ghost use Rattle.op_shape.specs.Causes.{first_cause};
+ghost use Rattle.shape_base.specs.Causes.{first_cause};
 ghost use Rattle.flow_shape.specs.Refusals.{chart_of, inputs_at, input_cause};
 
 use crate::methods::method_cause;

@@ -1,6 +1,6 @@
 ghost use Rattle.std.specs.Prelude.{◌≡◌, ◌<◌, ◌^◌, not, ◌||◌, true, length, IfOk};
 ghost use Rattle.flow_shape.specs.Methods.{may_stand, all_named, is_whole, is_whole_column, kinds_suit, method_cause, written_route, MethodDiffers};
-ghost use Rattle.op_shape.specs.Naming.{is_named};
+ghost use Rattle.shape_base.specs.Naming.{is_named};
 
 use ds_schema::Field;
 use ds_value::{Kind, Name, NoMemory};

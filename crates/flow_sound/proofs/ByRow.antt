@@ -23,12 +23,13 @@ use Rattle.flow_graph.specs.RowRules.{first_expr, numbered, row_rule, sets_of}
 use Rattle.flow_graph.specs.Shapes.{PassesInto, RowShape, Wide}
 use Rattle.flow_graph.proofs.RowShapes.{filter_shape, modify_shape, switch_shape, transform_shape}
 use Rattle.flow_rules.specs.Exports.{input_of}
-use Rattle.op_shape.specs.Causes.{first_cause}
-use Rattle.op_shape.specs.Columns.{field_at, modified_fields, renamed, set_fields}
-use Rattle.op_shape.proofs.Firsts.{none_both}
+use Rattle.shape_base.specs.Causes.{first_cause}
+use Rattle.shape_base.specs.Fields.{field_at, made_or_rejected}
+use Rattle.op_shape.specs.Columns.{modified_fields, renamed, set_fields}
+use Rattle.shape_base.proofs.Firsts.{none_both}
 use Rattle.op_shape.proofs.Keeping.{modified_length}
 use Rattle.op_shape.proofs.Putting.{width_is}
-use Rattle.op_shape.specs.Options.{made_or_rejected, operator_parts, option_causes, output_causes, output_fields}
+use Rattle.op_shape.specs.Options.{operator_parts, option_causes, output_causes, output_fields}
 use Rattle.flow_shape.specs.Refusals.{IsShapeOf, fields_at, input_cause, inputs_at, kind_at, parts_at}
 use Rattle.flow_sound.specs.Fitting.{IsByRow}
 use Rattle.flow_sound.proofs.Members.{below_range}

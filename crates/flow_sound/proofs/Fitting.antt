@@ -26,7 +26,8 @@ use Rattle.flow_graph.specs.Shapes.{HasPort, IsShaped, RowShape, Wide}
 use Rattle.flow_graph.proofs.RowShapes.{copy_shape, sink_shape}
 use Rattle.flow_derive.specs.LinkStates.{written_or_same}
 use Rattle.flow_rules.specs.Verdicts.{node_at}
-use Rattle.op_shape.specs.Options.{IsKeyed, first_fields, line_fields, made_or_rejected, output_fields}
+use Rattle.op_shape.specs.Options.{IsKeyed, line_fields, output_fields}
+use Rattle.shape_base.specs.Fields.{first_fields, made_or_rejected}
 use Rattle.flow_shape.specs.Refusals.{Fits, fields_at, inputs_at, kind_at}
 use Rattle.flow_sound.specs.Fitting.{IsByRow, RowsFit}
 use Rattle.flow_sound.specs.Kinds.{IsOfKind, LineFits}

@@ -14,8 +14,8 @@ use Rattle.ds_schema.specs.declared.schema.Field.{Field}
 use Rattle.ds_schema.specs.Schemas.{fits_field}
 use Rattle.op_base.specs.Columns.{Row}
 use Rattle.op_group.specs.Results.{as_int, as_uint, column as column_of, first_value, greatest, is_dec, is_int, is_null, is_uint, last_value, least, sum_of, total}
-use Rattle.op_shape.specs.Columns.{field_at}
-use Rattle.op_shape.specs.Keyed.{can_sum, made_field, sum_kind}
+use Rattle.shape_base.specs.Fields.{field_at}
+use Rattle.keyed_shape.specs.Keyed.{can_sum, made_field, sum_kind}
 use Rattle.flow_sound.proofs.Permuted.{greatest_all, least_all}
 use Rattle.flow_sound.proofs.GroupBounds.{few, one_more, within}
 use Rattle.flow_sound.proofs.Picking.{column_fits}

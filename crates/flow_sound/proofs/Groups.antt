@@ -27,13 +27,13 @@ use Rattle.flow_graph.specs.Runs.{result_on}
 use Rattle.flow_graph.specs.Shapes.{GroupShape}
 use Rattle.flow_ops.specs.Keyed.{aggs_of, grouping_at}
 use Rattle.flow_ops.specs.Kept.{CanBeSummed, SumsFit}
-use Rattle.op_shape.specs.Causes.{cause_if, first_cause}
-use Rattle.op_shape.specs.Columns.{field_at}
-use Rattle.op_shape.specs.Naming.{column, has_column, has_keys, key_columns}
-use Rattle.op_shape.specs.declared.fault.ShapeWhy.TheVariants as why
-use Rattle.op_shape.proofs.Firsts.{none_head}
-use Rattle.op_shape.proofs.Held.{column_within, held}
-use Rattle.op_shape.specs.Keyed.{can_sum, field_named, group_fields, result_cause, result_causes, result_field, source_cause, source_columns}
+use Rattle.shape_base.specs.Causes.{cause_if, first_cause}
+use Rattle.shape_base.specs.Fields.{field_at}
+use Rattle.shape_base.specs.Naming.{column, has_column, has_keys, key_columns}
+use Rattle.shape_base.specs.declared.fault.ShapeWhy.TheVariants as why
+use Rattle.shape_base.proofs.Firsts.{none_head}
+use Rattle.shape_base.proofs.Held.{column_within, held}
+use Rattle.keyed_shape.specs.Keyed.{can_sum, field_named, group_fields, result_cause, result_causes, result_field, source_cause, source_columns}
 use Rattle.flow_sound.proofs.Permuted.{results_permuted}
 use Rattle.flow_sound.proofs.ByKeys.{Come, RuleFits, runs_fit, values_fit}
 use Rattle.flow_sound.proofs.GroupResults.{column_all, first_fits, greatest_fits, last_fits, least_fits, present_all, renamed_fits, some_is, sum_fits}

@@ -13,10 +13,10 @@ use Rattle.op_join.specs.declared.kind.JoinKind.{JoinKind}
 use Rattle.op_join.specs.Joining.{joining, keeps_left, keeps_right}
 use Rattle.flow_graph.specs.Operators.{join, result}
 use Rattle.flow_graph.specs.Runs.{result_on}
-use Rattle.op_shape.specs.Naming.{key_columns}
-use Rattle.op_shape.specs.Keyed.{join_fields, joined_key, nullable_if, other_columns, other_fields}
+use Rattle.shape_base.specs.Naming.{key_columns}
+use Rattle.keyed_shape.specs.Keyed.{join_fields, joined_key, nullable_if, other_columns, other_fields}
 use Rattle.flow_sound.proofs.ByKeys.{Come, RuleFits, runs_fit, values_fit}
-use Rattle.op_shape.proofs.Held.{AreBoth}
+use Rattle.keyed_shape.proofs.Both.{AreBoth}
 use Rattle.flow_sound.proofs.Picking.{keys_long, left_keys_fit, no_others_fit, others_fit, right_keys_fit, rows_beside}
 use Rattle.flow_sound.proofs.Working.{Fit}
 

@@ -26,13 +26,15 @@ use Rattle.flow_graph.specs.Shapes.{FitsPorts, HasPort, IsShaped, KeysDistinct}
 use Rattle.flow_ops.specs.Keyed.{aggs_of, group_of, lookup_of}
 use Rattle.flow_ops.specs.Kinds.{joined_by}
 use Rattle.op_group.specs.Results.{in_row_order}
-use Rattle.op_shape.specs.Causes.{first_cause}
-use Rattle.op_shape.specs.Keyed.{result_causes}
-use Rattle.op_shape.specs.Naming.{key_columns}
-use Rattle.op_shape.specs.Options.{IsFed, IsKeyed, both_keys, first_fields, key_cause, operator_parts, option_causes, output_fields, second_fields}
-use Rattle.op_shape.specs.declared.fault.ShapeWhy.TheVariants as why
-use Rattle.op_shape.proofs.Firsts.{none_head}
-use Rattle.op_shape.proofs.Held.{AreBoth, are_both, held}
+use Rattle.shape_base.specs.Causes.{first_cause}
+use Rattle.keyed_shape.specs.Keyed.{result_causes}
+use Rattle.shape_base.specs.Naming.{key_columns, key_cause}
+use Rattle.op_shape.specs.Options.{IsFed, IsKeyed, both_keys, operator_parts, option_causes, output_fields}
+use Rattle.shape_base.specs.Fields.{first_fields, second_fields}
+use Rattle.shape_base.specs.declared.fault.ShapeWhy.TheVariants as why
+use Rattle.shape_base.proofs.Firsts.{none_head}
+use Rattle.keyed_shape.proofs.Both.{AreBoth, are_both}
+use Rattle.shape_base.proofs.Held.{held}
 use Rattle.flow_shape.specs.Refusals.{IsShapeOf, fields_at, inputs_at}
 use Rattle.flow_sound.specs.Fitting.{RowsFit}
 use Rattle.flow_sound.specs.Kinds.{IsOfKind}

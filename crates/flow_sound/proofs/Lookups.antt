@@ -17,9 +17,9 @@ use Rattle.flow_graph.specs.Charts.{main_passes}
 use Rattle.flow_graph.specs.Forms.{looked_passing}
 use Rattle.flow_graph.specs.Operators.{lookup, result}
 use Rattle.flow_graph.specs.RowRules.{at_op}
-use Rattle.op_shape.specs.Naming.{key_columns}
-use Rattle.op_shape.specs.Options.{made_or_rejected}
-use Rattle.op_shape.specs.Keyed.{continues, is_key, field_named, lookup_fields, main_field, nullable_if, other_fields}
+use Rattle.shape_base.specs.Naming.{key_columns}
+use Rattle.shape_base.specs.Fields.{made_or_rejected}
+use Rattle.keyed_shape.specs.Keyed.{continues, is_key, field_named, lookup_fields, main_field, nullable_if, other_fields}
 use Rattle.flow_sound.proofs.ByKeys.{Come}
 use Rattle.flow_sound.proofs.Joins.{each_given, others_long}
 use Rattle.flow_sound.proofs.Picking.{Widens, may_be_null, no_others_fit, others_fit, rows_beside, widened_fits}

@@ -12,12 +12,12 @@ use Rattle.ds_schema.specs.Rows.{at, cols, val}
 use Rattle.ds_schema.specs.Schemas.{fits_field, row_fits}
 use Rattle.op_base.specs.Columns.{Row, all_columns, is_in}
 use Rattle.op_base.proofs.All.{both_true}
-use Rattle.op_shape.proofs.Held.{column_within}
-use Rattle.op_shape.proofs.Keeping.{all_passing}
-use Rattle.op_shape.specs.Columns.{field_at}
-use Rattle.op_shape.specs.Naming.{column, has_column, has_keys, key_columns}
-use Rattle.op_shape.specs.Keyed.{field_named, joined_key, kinds_agree, nullable_if, other_columns, other_fields, same_flag, same_kind}
-use Rattle.op_shape.proofs.Held.{AreBoth}
+use Rattle.shape_base.proofs.Held.{column_within}
+use Rattle.shape_base.proofs.Lists.{all_passing}
+use Rattle.shape_base.specs.Fields.{field_at}
+use Rattle.shape_base.specs.Naming.{column, has_column, has_keys, key_columns}
+use Rattle.keyed_shape.specs.Keyed.{field_named, joined_key, kinds_agree, nullable_if, other_columns, other_fields, same_flag, same_kind}
+use Rattle.keyed_shape.proofs.Both.{AreBoth}
 use Rattle.flow_sound.proofs.Members.{all_of, below_range}
 use Rattle.flow_sound.proofs.SetRows.{both}
 

@@ -17,7 +17,8 @@ use Rattle.flow_graph.specs.RowRules.{row_rule}
 use Rattle.flow_graph.specs.Runs.{Means, Out}
 use Rattle.flow_graph.proofs.PartLaws.{parts_all}
 use Rattle.flow_rules.specs.Exports.{input_of}
-use Rattle.op_shape.specs.Options.{IsKeyed, first_fields, output_fields}
+use Rattle.op_shape.specs.Options.{IsKeyed, output_fields}
+use Rattle.shape_base.specs.Fields.{first_fields}
 use Rattle.flow_shape.specs.Refusals.{fields_at, inputs_at}
 use Rattle.flow_sound.specs.Fitting.{ExportsFit, IsByRow, MeaningFits, RowsFit}
 use Rattle.flow_sound.specs.Kinds.{IsOfKind}

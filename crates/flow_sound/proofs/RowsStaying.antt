@@ -20,9 +20,11 @@ use Rattle.flow_graph.specs.RowRules.{row_rule}
 use Rattle.flow_graph.specs.Runs.{result_on}
 use Rattle.flow_ops.specs.Keyed.{aggs_of}
 use Rattle.flow_ops.specs.Kept.{GivesFields, InputsFit, SumsFit}
-use Rattle.op_shape.specs.Keyed.{result_causes}
-use Rattle.op_shape.specs.Options.{IsKeyed, both_keys, first_fields, key_cause, output_fields, second_fields}
-use Rattle.op_shape.proofs.Firsts.{none_head}
+use Rattle.keyed_shape.specs.Keyed.{result_causes}
+use Rattle.op_shape.specs.Options.{IsKeyed, both_keys, output_fields}
+use Rattle.shape_base.specs.Fields.{first_fields, second_fields}
+use Rattle.shape_base.specs.Naming.{key_cause}
+use Rattle.shape_base.proofs.Firsts.{none_head}
 use Rattle.flow_shape.specs.Refusals.{fields_at, inputs_at}
 use Rattle.flow_sound.specs.Fitting.{ColumnsSuit, KeyedRowsStay, RowsFit, RowsStay}
 use Rattle.flow_sound.specs.Kinds.{IsOfKind}

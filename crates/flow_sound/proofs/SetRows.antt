@@ -13,7 +13,7 @@ use Rattle.op_row.specs.Setting.{put, put_all}
 use Rattle.flow_graph.specs.declared.op_kind.SetSpec.{SetSpec}
 use Rattle.op_shape.specs.Columns.{put_field, set_columns, set_fields}
 use Rattle.op_shape.proofs.Putting.{column_new, column_set, has_new}
-use Rattle.op_shape.specs.Naming.{column}
+use Rattle.shape_base.specs.Naming.{column}
 
 -- the first column that is set
 first_place : (s : SetSpec) (set : List SetSpec) (fields : List Field) → column (set_fields (put_field s.field fields) set) s.field.name ≡ column fields s.field.name

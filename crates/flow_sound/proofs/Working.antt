@@ -31,9 +31,9 @@ use Rattle.flow_graph.specs.declared.op_kind.OpKind.TheVariants as kind
 use Rattle.flow_graph.specs.declared.op_kind.SetSpec.{SetSpec}
 use Rattle.flow_graph.specs.declared.parts.OpParts.{OpParts}
 use Rattle.flow_graph.specs.RowRules.{ExprsFit, sets_of}
-use Rattle.op_shape.specs.declared.fault.ShapeWhy.TheVariants as why
-use Rattle.op_shape.proofs.Firsts.{none_head}
-use Rattle.op_shape.specs.Causes.{first_cause}
+use Rattle.shape_base.specs.declared.fault.ShapeWhy.TheVariants as why
+use Rattle.shape_base.proofs.Firsts.{none_head}
+use Rattle.shape_base.specs.Causes.{first_cause}
 use Rattle.op_shape.specs.Columns.{renamed, set_columns, set_fields}
 use Rattle.op_shape.specs.Exprs.{expr_cause, expr_over, is_set, read_over, set_causes, some_tree, suits, tree_over, typed_text}
 use Rattle.op_shape.specs.Options.{operator_parts, option_causes}

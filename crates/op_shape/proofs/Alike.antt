@@ -4,12 +4,14 @@ use Rattle.ds_schema.specs.declared.schema.Field.{Field}
 use Rattle.flow_graph.specs.declared.op_kind.AggSpec.{AggSpec}
 use Rattle.flow_graph.specs.declared.op_kind.OpKind.{OpKind}
 use Rattle.flow_graph.specs.declared.op_kind.OpKind.TheVariants as kind
-use Rattle.op_shape.specs.declared.fault.ShapeWhy.{ShapeWhy}
-use Rattle.op_shape.specs.Causes.{first_cause}
+use Rattle.shape_base.specs.declared.fault.ShapeWhy.{ShapeWhy}
+use Rattle.shape_base.specs.Causes.{first_cause}
 use Rattle.op_shape.specs.Columns.{columns_cause, kept_fields, modified_fields}
-use Rattle.op_shape.specs.Keyed.{group_fields, result_causes}
-use Rattle.op_shape.specs.Options.{first_fields, key_cause, option_causes, output_causes, renames_cause}
-use Rattle.op_shape.specs.Widths.{fields_cause}
+use Rattle.keyed_shape.specs.Keyed.{group_fields, result_causes}
+use Rattle.shape_base.specs.Fields.{first_fields}
+use Rattle.shape_base.specs.Naming.{key_cause}
+use Rattle.op_shape.specs.Options.{option_causes, output_causes, renames_cause}
+use Rattle.shape_base.specs.Widths.{fields_cause}
 
 abbrev group_first : List (List ℕ × Bool) → List AggSpec → List Field → Option ShapeWhy
 group_first key results fields = first_cause ((key_cause key fields ∷ result_causes results fields) ++ (fields_cause (group_fields key results fields) ∷ []))

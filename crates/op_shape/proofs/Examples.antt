@@ -14,14 +14,14 @@ use Rattle.flow_graph.specs.declared.op_kind.AggSpec.TheVariants as agg
 use Rattle.flow_graph.specs.declared.op_kind.OpKind.{OpKind}
 use Rattle.flow_graph.specs.declared.op_kind.OpKind.TheVariants as kind
 use Rattle.flow_graph.specs.declared.op_kind.SetSpec.{SetSpec}
-use Rattle.op_shape.specs.declared.fault.ShapeWhy.{ShapeWhy}
-use Rattle.op_shape.specs.declared.fault.ShapeWhy.TheVariants as why
-use Rattle.op_shape.specs.Causes.{first_cause}
+use Rattle.shape_base.specs.declared.fault.ShapeWhy.{ShapeWhy}
+use Rattle.shape_base.specs.declared.fault.ShapeWhy.TheVariants as why
+use Rattle.shape_base.specs.Causes.{first_cause}
 use Rattle.op_shape.specs.Columns.{sets_cause}
 use Rattle.op_shape.specs.Exprs.{is_set, is_test, is_whole, suits}
-use Rattle.op_shape.specs.Keyed.{sum_cause}
+use Rattle.keyed_shape.specs.Keyed.{sum_cause}
 use Rattle.op_shape.specs.Options.{line_fields, option_causes, output_causes, output_fields, operator_columns, operator_keys}
-use Rattle.op_shape.specs.Widths.{fields_cause}
+use Rattle.shape_base.specs.Widths.{fields_cause}
 
 abbrev field : List ℕ → Kind → Field
 field name k = record { name = name; nullable = false; kind = k }

@@ -11,18 +11,19 @@ use Rattle.flow_graph.specs.RowRules.{ExprsFit, sets_of}
 use Rattle.flow_graph.specs.declared.op_kind.OpKind.{OpKind}
 use Rattle.flow_graph.specs.declared.op_kind.OpKind.TheVariants as kind
 use Rattle.flow_graph.specs.declared.op_kind.SetSpec.{SetSpec}
-use Rattle.op_shape.specs.declared.fault.ShapeWhy.{ShapeWhy}
-use Rattle.op_shape.specs.declared.fault.ShapeWhy.TheVariants as why
-use Rattle.op_shape.specs.Causes.{first_cause}
+use Rattle.shape_base.specs.declared.fault.ShapeWhy.{ShapeWhy}
+use Rattle.shape_base.specs.declared.fault.ShapeWhy.TheVariants as why
+use Rattle.shape_base.specs.Causes.{first_cause}
 use Rattle.op_shape.specs.Columns.{columns_cause, kept_columns, modified_fields, set_columns, set_fields, set_names, sets_cause, stand_twice}
 use Rattle.op_shape.specs.Exprs.{expr_cause, expr_over, is_set, is_test, is_whole, set_causes}
-use Rattle.op_shape.specs.Naming.{has_columns}
-use Rattle.op_shape.specs.Options.{IsKnown, OptionsStand, first_fields, option_causes, output_causes, operator_parts, renames_cause}
-use Rattle.op_shape.specs.Widths.{fields_cause}
-use Rattle.op_shape.proofs.Firsts.{none_both, none_head}
-use Rattle.op_shape.proofs.Held.{held, unheld}
+use Rattle.shape_base.specs.Naming.{has_columns}
+use Rattle.op_shape.specs.Options.{IsKnown, OptionsStand, option_causes, output_causes, operator_parts, renames_cause}
+use Rattle.shape_base.specs.Fields.{first_fields}
+use Rattle.shape_base.specs.Widths.{fields_cause}
+use Rattle.shape_base.proofs.Firsts.{none_both, none_head}
+use Rattle.shape_base.proofs.Held.{held, unheld}
 use Rattle.op_shape.proofs.Keeping.{kept_lie, modified_length}
-use Rattle.op_shape.proofs.Making.{narrow}
+use Rattle.shape_base.proofs.Making.{narrow}
 use Rattle.op_shape.proofs.Putting.{targets_stand}
 use Rattle.op_shape.proofs.Typing.{truth_is, typed_over, whole_is}
 

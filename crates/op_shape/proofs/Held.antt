@@ -1,75 +1,23 @@
 -- Names of an operator name columns of its input.
-use Rattle.std.proofs.Common.{◌≡◌, ◌<◌, ◌+◌, ◌++◌, ◌∷◌, [], ◌||◌, ◌&&◌, not, ℕ, zero, suc, List, Bool, true, false, Option, None, cond, refl, arith, length, get_or, subst}
+use Rattle.std.proofs.Common.{◌≡◌, ◌++◌, ◌∷◌, [], ℕ, zero, suc, List, Bool, true, None, length, get_or, subst}
 use Rattle.std.specs.List.{AllByRecursion}
-use Rattle.std.proofs.lemmas.Bool.{and_parts}
-use Rattle.op_base.proofs.ColumnLaws.{in_range}
-use Rattle.op_base.specs.Columns.{IsIn, Lies, all_columns}
+use Rattle.op_base.specs.Columns.{Lies, all_columns}
 use Rattle.op_base.specs.Keyed.{get_keys}
 use Rattle.ds_schema.specs.declared.schema.Field.{Field}
 use Rattle.ds_schema.specs.Rows.{cols, KeysDiffer}
 use Rattle.flow_graph.specs.declared.op_kind.OpKind.{OpKind}
 use Rattle.flow_graph.specs.declared.op_kind.OpKind.TheVariants as kind
-use Rattle.op_shape.specs.declared.fault.ShapeWhy.{ShapeWhy}
-use Rattle.op_shape.specs.declared.fault.ShapeWhy.TheVariants as why
-use Rattle.op_shape.specs.Causes.{first_cause, cause_if}
-use Rattle.op_shape.specs.Keyed.{both_cause, kinds_agree}
-use Rattle.op_shape.specs.Naming.{is_named, has_column, has_columns, has_keys, column, columns, key_columns, NamesDiffer}
-use Rattle.op_shape.specs.Options.{IsKnown, KeysDistinct, both_keys, first_fields, key_cause, option_causes, output_causes, operator_keys, second_fields}
-use Rattle.op_shape.proofs.Firsts.{none_head}
-use Rattle.op_shape.proofs.Keys.{keys_differ}
-
-within_by : (x : Bool) (r : Bool) (m n : ℕ) → (x || r) ≡ true → (r ≡ true → m < n) → cond (not x) (1 + m) 0 < suc n
-within_by true r m n h go = omega arith
-within_by false r m n h go = let k = go h in omega (arith, k)
-
-pub column_within : (fields : List Field) (name : List ℕ) → has_column fields name ≡ true → column fields name < length fields
-column_within [] name h = cc
-column_within (f ∷ fields) name h = within_by (is_named name f) (has_column fields name) (column fields name) (length fields) h (column_within fields name)
-
-pub column_in : (fields : List Field) (name : List ℕ) → has_column fields name ≡ true → IsIn (column fields name) (all_columns (length fields))
-column_in fields name h = let w = column_within fields name h in in_range (column fields name) 0 (length fields) (omega arith) (omega (arith, w))
-
-pub names_lie : (fields : List Field) (names : List (List ℕ)) → has_columns fields names ≡ true → Lies (columns fields names) (all_columns (length fields))
-names_lie fields [] h = tt
-names_lie fields (name ∷ names) h = let parts = and_parts (has_column fields name) (has_columns fields names) h in (column_in fields name parts.0, names_lie fields names parts.1)
-
--- the same as a bound
-pub names_within : (fields : List Field) (names : List (List ℕ)) → has_columns fields names ≡ true → AllByRecursion (λ c. c < length fields) (columns fields names)
-names_within fields [] h = tt
-names_within fields (name ∷ names) h = let parts = and_parts (has_column fields name) (has_columns fields names) h in (column_within fields name parts.0, names_within fields names parts.1)
-
-pub keys_lie : (fields : List Field) (keys : List (List ℕ × Bool)) → has_keys fields keys ≡ true → Lies (cols (key_columns fields keys)) (all_columns (length fields))
-keys_lie fields [] h = tt
-keys_lie fields (k ∷ keys) h = let parts = and_parts (has_column fields (k.0)) (has_keys fields keys) h in (column_in fields (k.0) parts.0, keys_lie fields keys parts.1)
-
--- no cause, so what is asked holds
-pub held : (x : Bool) (why : ShapeWhy) → cause_if (not x) why ≡ None → x ≡ true
-held true why e = refl
-held false why e = cc
-
-pub unheld : (x : Bool) (why : ShapeWhy) → cause_if x why ≡ None → x ≡ false
-unheld true why e = cc
-unheld false why e = refl
-
-has_by : (fields : List Field) (key : List (List ℕ × Bool)) (rest : List (Option ShapeWhy)) → first_cause (key_cause key fields ∷ rest) ≡ None → has_keys fields key ≡ true
-has_by fields key rest e = held (has_keys fields key) why.Field (none_head (key_cause key fields) rest e).0
+use Rattle.shape_base.specs.Causes.{first_cause}
+use Rattle.shape_base.specs.Naming.{has_keys, key_columns, NamesDiffer}
+use Rattle.op_shape.specs.Options.{IsKnown, KeysDistinct, both_keys, option_causes, output_causes, operator_keys}
+use Rattle.shape_base.specs.Fields.{first_fields, second_fields}
+use Rattle.shape_base.proofs.Keys.{keys_differ}
+use Rattle.keyed_shape.proofs.Both.{AreBoth, are_both}
+use Rattle.shape_base.proofs.Held.{has_by, keys_lie}
 
 one_lies : (key : List (List ℕ × Bool)) (ins : List (List Field)) (i w : ℕ) → has_keys (first_fields ins) key ≡ true → length (get_or ins i []) ≡ w → Lies (cols (get_keys (key_columns (first_fields ins) key ∷ []) i)) (all_columns w)
 one_lies key ins zero w h e = subst (λ n. Lies (cols (key_columns (first_fields ins) key)) (all_columns n)) e (keys_lie (first_fields ins) key h)
 one_lies key ins (suc i) w h e = tt
-
--- keys that are on two inputs, of one kind
-pub record AreBoth (key : List (List ℕ × Bool)) (left right : List Field) : Type 0 where
-  pub left_has : has_keys left key ≡ true
-  pub right_has : has_keys right key ≡ true
-  pub agree : kinds_agree key left right ≡ true
-
-pub are_both : (key : List (List ℕ × Bool)) (left right : List Field) (rest : List (Option ShapeWhy)) → first_cause (both_cause key left right ∷ rest) ≡ None → AreBoth key left right
-are_both key left right rest e =
-    let here = (none_head (both_cause key left right) rest e).0 in
-    let one = none_head (cause_if (not (has_keys left key && has_keys right key)) why.Field) _ here in
-    let has = and_parts (has_keys left key) (has_keys right key) (held (has_keys left key && has_keys right key) why.Field one.0) in
-    record { left_has = has.0; right_has = has.1; agree = held (kinds_agree key left right) why.Kind (none_head (cause_if (not (kinds_agree key left right)) why.Kind) [] one.1).0 }
 
 both_lie : (key : List (List ℕ × Bool)) (ins : List (List Field)) (i w : ℕ) → AreBoth key (first_fields ins) (second_fields ins) → length (get_or ins i []) ≡ w → Lies (cols (get_keys (both_keys key ins) i)) (all_columns w)
 both_lie key ins zero w h e = subst (λ n. Lies (cols (key_columns (first_fields ins) key)) (all_columns n)) e (keys_lie (first_fields ins) key h.left_has)

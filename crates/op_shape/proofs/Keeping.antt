@@ -1,30 +1,16 @@
 -- The columns that a modify keeps are columns of its input.
-use Rattle.std.proofs.Common.{◌≡◌, ◌≤◌, ◌<◌, ◌+◌, ◌∷◌, ◌++◌, [], not, ℕ, zero, suc, List, Bool, true, false, cond, sym, ap, ◌∙◌, arith, length, get_or}
+use Rattle.std.proofs.Common.{◌≡◌, ◌<◌, ◌+◌, ◌∷◌, ◌++◌, [], not, ℕ, suc, List, Bool, true, cond, sym, ap, ◌∙◌, arith, length, get_or}
 use Rattle.std.specs.List.{AllByRecursion, filter, range_with_len}
 use Rattle.std.proofs.lemmas.List.{get_or_read, length-map}
 use Rattle.std.proofs.lemmas.List.Elements.{filter-append}
 use Rattle.op_base.specs.Columns.{IsIn, Lies, all_columns}
 use Rattle.op_base.proofs.ColumnLaws.{lies_self}
 use Rattle.ds_schema.specs.declared.schema.Field.{Field}
-use Rattle.op_shape.specs.Columns.{is_among, field_at, no_field, kept_columns, kept_fields, renamed, modified_fields}
-use Rattle.op_shape.specs.Naming.{has_columns}
-use Rattle.op_shape.proofs.Held.{names_lie, names_within}
-
-passing_by : {X : Type 0} (P : X → Type 0) (b : Bool) (x : X) (ys : List X) → P x → AllByRecursion P ys → AllByRecursion P (cond b (x ∷ ys) ys)
-passing_by P true x ys h a = (h, a)
-passing_by P false x ys h a = a
-
--- what holds of all holds of those that pass
-pub all_passing : {X : Type 0} (P : X → Type 0) (p : X → Bool) (xs : List X) → AllByRecursion P xs → AllByRecursion P (filter p xs)
-all_passing P p [] a = tt
-all_passing P p (x ∷ xs) a = passing_by P (p x) x (filter p xs) a.0 (all_passing P p xs a.1)
-
-pub range_within : (a n m : ℕ) → a + n ≤ m → AllByRecursion (λ c. c < m) (range_with_len a n)
-range_within a n m h = all_range n a h
-  where
-    all_range : (k b : ℕ) → b + k ≤ m → AllByRecursion (λ c. c < m) (range_with_len b k)
-    all_range zero b l = tt
-    all_range (suc k) b l = (omega arith, all_range k (b + 1) (omega arith))
+use Rattle.op_shape.specs.Columns.{is_among, kept_columns, kept_fields, renamed, modified_fields}
+use Rattle.shape_base.specs.Fields.{field_at, no_field}
+use Rattle.shape_base.specs.Naming.{has_columns}
+use Rattle.shape_base.proofs.Held.{names_lie, names_within}
+use Rattle.shape_base.proofs.Lists.{all_passing, range_more, range_within}
 
 pub kept_lie : (keep drop : List (List ℕ)) (fields : List Field) → has_columns fields keep ≡ true → Lies (kept_columns keep drop fields) (all_columns (length fields))
 kept_lie [] drop fields h = all_passing (λ c. IsIn c (all_columns (length fields))) (λ c. not (is_among drop (field_at fields c).name)) (all_columns (length fields)) (lies_self (all_columns (length fields)))
@@ -41,10 +27,6 @@ modified_length keep drop rename fields = length-map (kept_fields keep drop fiel
 
 abbrev pub left_to : List (List ℕ) → List Field → ℕ → List ℕ
 left_to drop fields i = filter (λ c. not (is_among drop (field_at fields c).name)) (range_with_len 0 i)
-
-pub range_more : (a n c : ℕ) → a + n ≡ c → range_with_len a (suc n) ≡ range_with_len a n ++ c ∷ []
-range_more a zero c e = ap (λ x. x ∷ []) (let h : a ≡ c = omega (arith, e) in h)
-range_more a (suc n) c e = ap (λ cs. a ∷ cs) (range_more (a + 1) n c (omega (arith, e)))
 
 left_more : (drop : List (List ℕ)) (fields : List Field) (i : ℕ) (b : Bool) → not (is_among drop (field_at fields i).name) ≡ b → left_to drop fields (i + 1) ≡ left_to drop fields i ++ cond b (i ∷ []) []
 left_more drop fields i b e =

@@ -10,9 +10,9 @@ use Rattle.ds_schema.specs.declared.schema.Field.{Field}
 use Rattle.flow_graph.specs.declared.op_kind.SetSpec.{SetSpec}
 use Rattle.op_row.specs.Expressed.{AreTargets, width_after, width_with}
 use Rattle.op_shape.specs.Columns.{put_field, set_fields, set_names, set_columns, is_among, stand_twice}
-use Rattle.op_shape.specs.Naming.{is_named, has_column, has_columns, column, columns}
-use Rattle.op_shape.proofs.Held.{names_lie}
-use Rattle.op_shape.proofs.Keys.{one_name}
+use Rattle.shape_base.specs.Naming.{is_named, has_column, has_columns, column, columns}
+use Rattle.shape_base.proofs.Held.{names_lie}
+use Rattle.shape_base.proofs.Keys.{one_name}
 
 same_name : (a b : List ℕ) → a ≡ b → bytes_eq a b ≡ true
 same_name a b e = (bytes_eq-Decides a b).1 e

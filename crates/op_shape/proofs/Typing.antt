@@ -11,11 +11,11 @@ use Rattle.ds_expr.specs.Typed.{TypedTree}
 use Rattle.ds_expr.specs.Typing.{typed_of}
 use Rattle.flow_graph.specs.declared.op_kind.SetSpec.{SetSpec}
 use Rattle.op_row.specs.Expressed.{IsWhole}
-use Rattle.op_shape.specs.declared.fault.ShapeWhy.TheVariants as why
-use Rattle.op_shape.specs.Causes.{first_cause}
+use Rattle.shape_base.specs.declared.fault.ShapeWhy.TheVariants as why
+use Rattle.shape_base.specs.Causes.{first_cause}
 use Rattle.op_shape.specs.Exprs.{tree_over, read_over, typed_text, is_truth, is_num, is_whole, is_set, suits, expr_cause, set_causes, some_tree, expr_over}
-use Rattle.op_shape.proofs.Firsts.{none_head}
-use Rattle.op_shape.proofs.Held.{held}
+use Rattle.shape_base.proofs.Firsts.{none_head}
+use Rattle.shape_base.proofs.Held.{held}
 
 pub record IsOver (fields : List Field) (test : TypedTree → Bool) (t : TypedTree) : Type 0 where
   pub over : t.fields ≡ fields

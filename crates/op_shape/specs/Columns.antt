@@ -1,15 +1,15 @@
 -- The columns that a transform sets and those that a modify keeps, and the fields that these give.
-use Rattle.std.specs.Prelude.{ℕ, ◌||◌, not, Bool, true, false, List, [], ◌∷◌, length, map, get_or, Option, if◌then◌else◌}
+use Rattle.std.specs.Prelude.{ℕ, ◌||◌, not, Bool, false, List, [], ◌∷◌, length, map, Option, if◌then◌else◌}
 use Rattle.std.specs.List.{filter, list_any, list_all}
 use Rattle.std.specs.Str.{bytes_eq}
-use Rattle.ds_value.specs.declared.kind.Kind.TheVariants as data_kind
 use Rattle.ds_schema.specs.declared.schema.Field.{Field}
 use Rattle.op_base.specs.Columns.{all_columns}
 use Rattle.flow_graph.specs.declared.op_kind.SetSpec.{SetSpec}
-use Rattle.op_shape.specs.declared.fault.ShapeWhy.{ShapeWhy}
-use Rattle.op_shape.specs.declared.fault.ShapeWhy.TheVariants as why
-use Rattle.op_shape.specs.Causes.{cause_if}
-use Rattle.op_shape.specs.Naming.{columns, has_column, has_columns}
+use Rattle.shape_base.specs.declared.fault.ShapeWhy.{ShapeWhy}
+use Rattle.shape_base.specs.declared.fault.ShapeWhy.TheVariants as why
+use Rattle.shape_base.specs.Causes.{cause_if}
+use Rattle.shape_base.specs.Naming.{columns, has_column, has_columns}
+use Rattle.shape_base.specs.Fields.{field_at}
 
 -- ---- transform
 
@@ -44,12 +44,6 @@ sets_cause set = cause_if (stand_twice (set_names set)) why.Double
 
 abbrev pub columns_cause : List (List ℕ) → List Field → Option ShapeWhy
 columns_cause names fields = cause_if (not (has_columns fields names)) why.Field
-
-abbrev pub no_field : Field
-no_field = record { name = []; nullable = true; kind = data_kind.Date }
-
-abbrev pub field_at : List Field → ℕ → Field
-field_at fields c = get_or fields c no_field
 
 -- the columns that aren't dropped, in the order of the input
 abbrev pub left_columns : List (List ℕ) → List Field → List ℕ

@@ -13,9 +13,9 @@ use Rattle.flow_graph.specs.RowRules.{no_expr}
 use Rattle.flow_graph.specs.declared.op_kind.OpKind.{OpKind}
 use Rattle.flow_graph.specs.declared.op_kind.OpKind.TheVariants as kind
 use Rattle.flow_graph.specs.declared.op_kind.SetSpec.{SetSpec}
-use Rattle.op_shape.specs.declared.fault.ShapeWhy.{ShapeWhy}
-use Rattle.op_shape.specs.declared.fault.ShapeWhy.TheVariants as why
-use Rattle.op_shape.specs.Causes.{cause_if}
+use Rattle.shape_base.specs.declared.fault.ShapeWhy.{ShapeWhy}
+use Rattle.shape_base.specs.declared.fault.ShapeWhy.TheVariants as why
+use Rattle.shape_base.specs.Causes.{cause_if}
 
 abbrev pub tree_over : List Field → Result TypedNode ℕ → Option TypedTree
 tree_over fields (Ok x) = Some (record { fields = fields; node = x.node; typing = x.typing })

@@ -1,7 +1,4 @@
-pub mod Causes
+pub use Rattle.shape_base.specs.Naming
 pub mod Columns
 pub mod Exprs
-pub mod Keyed
-pub mod Naming
 pub mod Options
-pub mod Widths

@@ -1,5 +1,5 @@
 -- What is wrong at an operator's options and outputs, and the fields of its outputs, by the fields of its inputs.
-use Rattle.std.specs.Prelude.{◌≡◌, ℕ, zero, suc, ◌<◌, ◌==◌, Bool, true, false, not, List, [], ◌∷◌, length, get_or, Option, Some, None, codes}
+use Rattle.std.specs.Prelude.{◌≡◌, ℕ, ◌<◌, ◌==◌, Bool, true, false, not, List, [], ◌∷◌, length, Option, Some, None, codes}
 use Rattle.std.specs.List.{AllByRecursion}
 use Rattle.ds_value.specs.declared.kind.Kind.TheVariants as data_kind
 use Rattle.ds_schema.specs.declared.schema.Field.{Field}
@@ -11,14 +11,15 @@ use Rattle.flow_graph.specs.declared.op_kind.OpKind.TheVariants as kind
 use Rattle.flow_graph.specs.declared.op_kind.AggSpec.{AggSpec}
 use Rattle.flow_graph.specs.declared.op_kind.SetSpec.{SetSpec}
 use Rattle.flow_graph.specs.declared.parts.OpParts.{OpParts}
-use Rattle.op_shape.specs.declared.fault.ShapeWhy.{ShapeWhy}
-use Rattle.op_shape.specs.declared.fault.ShapeWhy.TheVariants as why
-use Rattle.op_shape.specs.Causes.{cause_if}
+use Rattle.shape_base.specs.declared.fault.ShapeWhy.{ShapeWhy}
+use Rattle.shape_base.specs.declared.fault.ShapeWhy.TheVariants as why
+use Rattle.shape_base.specs.Causes.{cause_if}
 use Rattle.op_shape.specs.Columns.{columns_cause, has_renamed, kept_columns, kept_fields, modified_fields, set_columns, set_fields, sets_cause}
 use Rattle.op_shape.specs.Exprs.{exprs_of, on_cause, set_causes, test_cause}
-use Rattle.op_shape.specs.Keyed.{both_cause, group_fields, join_fields, lookup_fields, result_causes, result_name, source_columns}
-use Rattle.op_shape.specs.Naming.{has_keys, key_columns, NamesDiffer}
-use Rattle.op_shape.specs.Widths.{fields_cause}
+use Rattle.keyed_shape.specs.Keyed.{both_cause, group_fields, join_fields, lookup_fields, result_causes, result_name, source_columns}
+use Rattle.shape_base.specs.Naming.{key_columns, NamesDiffer, key_cause}
+use Rattle.shape_base.specs.Widths.{fields_cause}
+use Rattle.shape_base.specs.Fields.{first_fields, made_or_rejected, second_fields}
 
 -- the operators by keys that make fields of their own
 abbrev pub IsKeyed : OpKind → Type 0
@@ -43,12 +44,6 @@ IsKnown (kind.Tsort key) = Unit {0}
 IsKnown (kind.Remdup key last) = Unit {0}
 IsKnown k = IsKeyed k
 
-abbrev pub first_fields : List (List Field) → List Field
-first_fields ins = get_or ins 0 []
-
-abbrev pub second_fields : List (List Field) → List Field
-second_fields ins = get_or ins 1 []
-
 -- how many inputs the operators that are defined here have: an import none, a join and a lookup two, the others one
 abbrev pub IsFed : OpKind → ℕ → Type 0
 IsFed (kind.Import file schema delim fixed reject) n = n ≡ 0
@@ -66,9 +61,6 @@ widths_suit (Some widths) fields = length widths == length fields
 
 abbrev pub widths_cause : Option (List ℕ) → List Field → Option ShapeWhy
 widths_cause widths fields = cause_if (not (widths_suit widths fields)) why.Schemas
-
-abbrev pub key_cause : List (List ℕ × Bool) → List Field → Option ShapeWhy
-key_cause key fields = cause_if (not (has_keys fields key)) why.Field
 
 -- a renamed column is one that is kept
 abbrev pub renames_cause : List (List ℕ × List ℕ) → List Field → Option ShapeWhy
@@ -109,11 +101,6 @@ output_causes k ins = []
 -- `record ( line: string[max=65536]; )`, of rejected lines
 abbrev pub line_fields : List Field
 line_fields = record { name = codes "line"; nullable = false; kind = data_kind.Text 65536 false } ∷ []
-
--- the fields of output 0, and those of a reject output
-abbrev pub made_or_rejected : List Field → List Field → ℕ → List Field
-made_or_rejected made rejected zero = made
-made_or_rejected made rejected (suc q) = rejected
 
 -- the fields of output q: those of input 0, but where the operator has or makes others
 abbrev pub output_fields : OpKind → List (List Field) → ℕ → List Field

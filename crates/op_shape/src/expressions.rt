@@ -3,15 +3,15 @@
 ghost use Rattle.std.specs.Prelude.{◌≡◌, ◌≢◌, [], ◌∷◌, map, not, None, length, get_or, IfOk};
 ghost use Rattle.ds_expr.specs.Typing.{typed_of};
 ghost use Rattle.flow_graph.specs.declared.op_kind.SetSpec.{SetSpec as SetOf};
-ghost use Rattle.op_shape.specs.declared.fault.ShapeWhy.TheVariants as why;
-ghost use Rattle.op_shape.specs.Causes.{cause_if, first_cause};
+ghost use Rattle.shape_base.specs.declared.fault.ShapeWhy.TheVariants as why;
+ghost use Rattle.shape_base.specs.Causes.{cause_if, first_cause};
 ghost use Rattle.op_shape.specs.Exprs.{tree_over, typed_text, is_truth, is_num, is_test, is_whole, is_set, suits, expr_cause, test_cause, on_cause, set_causes, expr_over};
 
-use crate::ShapeWhy;
 use ds_expr::{Expr, ExprFault, Shape, TypeFault, Typed, can_assign, check, parse, shape_of};
 use ds_schema::{Field, Schema};
 use ds_value::{Items, NoMemory};
 use flow_graph::SetSpec;
+use shape_base::ShapeWhy;
 use std::alloc::Global;
 
 fn typed_expr(alloc: Global, schema: &Schema, expr: Expr) -> Result<Option<Typed>, NoMemory>

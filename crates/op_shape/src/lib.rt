@@ -3,24 +3,16 @@
 #![tactic(auto)]
 
 mod expressions;
-mod fault;
-mod grouping;
-mod inputs;
-mod joining;
-mod keying;
-mod looking;
 mod modifying;
-pub mod naming;
 mod options;
 mod outputs;
 mod parts;
 mod setting;
-mod widths;
 
-pub use fault::ShapeWhy;
 pub use options::own_cause;
 pub use outputs::{line_schema, output_schema};
 pub use parts::operator_parts;
+pub use shape_base::{ShapeWhy, naming};
 
 #[cfg(test)]
 mod keyed_tests;

@@ -2,14 +2,15 @@
 
 ghost use Rattle.std.specs.Prelude.{◌≡◌, ◌<◌, ◌^◌, ℕ, true, length, map, IfOk};
 ghost use Rattle.std.specs.List.{AllByRecursion};
-ghost use Rattle.op_shape.specs.Naming.{has_columns};
+ghost use Rattle.shape_base.specs.Naming.{has_columns};
 ghost use Rattle.op_shape.specs.Options.{renames_cause};
-ghost use Rattle.op_shape.specs.Columns.{is_among, columns_cause, field_at, left_columns, kept_columns, kept_fields, has_renamed, new_name, renamed, modified_fields};
+ghost use Rattle.op_shape.specs.Columns.{is_among, columns_cause, left_columns, kept_columns, kept_fields, has_renamed, new_name, renamed, modified_fields};
+ghost use Rattle.shape_base.specs.Fields.{field_at};
 
-use crate::ShapeWhy;
-use crate::naming::{columns, has_column, has_columns};
 use ds_schema::Field;
 use ds_value::{Copied, Items, Name, NoMemory};
+use shape_base::ShapeWhy;
+use shape_base::naming::{columns, has_column, has_columns};
 use std::alloc::Global;
 
 /// What is wrong with names of columns.

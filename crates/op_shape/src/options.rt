@@ -1,25 +1,25 @@
 //! What is wrong at the options and the outputs of an operator.
 
 ghost use Rattle.std.specs.Prelude.{◌≡◌, ◌<◌, ◌^◌, ◌++◌, not, [], ◌∷◌, None, length, map, IfOk};
-ghost use Rattle.op_shape.specs.Causes.{first_cause};
+ghost use Rattle.shape_base.specs.Causes.{first_cause};
 ghost use Rattle.op_shape.specs.Columns.{columns_cause, kept_fields, modified_fields, set_fields, sets_cause};
 ghost use Rattle.op_shape.specs.Exprs.{set_causes};
-ghost use Rattle.op_shape.specs.Widths.{fields_cause};
-ghost use Rattle.op_shape.specs.Options.{IsKeyed, IsKnown, IsFed, widths_suit, widths_cause, key_cause, renames_cause, option_causes, output_causes};
+ghost use Rattle.shape_base.specs.Widths.{fields_cause};
+ghost use Rattle.op_shape.specs.Options.{IsKeyed, IsKnown, IsFed, widths_suit, widths_cause, renames_cause, option_causes, output_causes};
+ghost use Rattle.shape_base.specs.Naming.{key_cause};
 
-use crate::ShapeWhy;
 use crate::expressions::{on_cause, set_causes, test_cause};
-use crate::grouping::group_cause;
-use crate::inputs::{first, second};
-use crate::joining::{FULL_OUTER, INNER, LEFT_OUTER, RIGHT_OUTER, join_cause};
-use crate::looking::lookup_cause;
 use crate::modifying::{columns_cause, modified_fields, renames_cause};
-use crate::naming::has_keys;
 use crate::setting::{set_fields, sets_cause};
-use crate::widths::fields_cause;
 use ds_schema::{Field, Schema};
 use ds_value::{Items, Name, NoMemory};
 use flow_graph::{OpKind, SetSpec};
+use keyed_shape::{
+    FULL_OUTER, INNER, LEFT_OUTER, RIGHT_OUTER, group_cause, join_cause, lookup_cause,
+};
+use shape_base::inputs::{first, second};
+use shape_base::naming::has_keys;
+use shape_base::{ShapeWhy, fields_cause};
 use std::alloc::Global;
 
 fn widths_suit(widths: &Option<Items<u32>>, fields: &[Field]) -> bool

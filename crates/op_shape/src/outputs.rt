@@ -4,21 +4,22 @@ ghost use Rattle.std.specs.Prelude.{◌≡◌, ◌++◌, ℕ, List, [], ◌∷�
 ghost use Rattle.std.specs.List.{AllByRecursion};
 ghost use Rattle.ds_schema.specs.Schemas.{IsField, IsFieldName};
 ghost use Rattle.flow_graph.specs.declared.op_kind.SetSpec.{SetSpec as SetOf};
-ghost use Rattle.op_shape.specs.Causes.{first_cause};
+ghost use Rattle.shape_base.specs.Causes.{first_cause};
 ghost use Rattle.op_shape.specs.Columns.{modified_fields, set_fields};
-ghost use Rattle.op_shape.specs.Naming.{has_columns};
-ghost use Rattle.op_shape.specs.Widths.{fields_cause};
-ghost use Rattle.op_shape.specs.Options.{IsKeyed, IsKnown, IsFed, OptionsStand, line_fields, made_or_rejected, option_causes, output_causes, output_fields};
+ghost use Rattle.shape_base.specs.Naming.{has_columns};
+ghost use Rattle.shape_base.specs.Widths.{fields_cause};
+ghost use Rattle.op_shape.specs.Options.{IsKeyed, IsKnown, IsFed, OptionsStand, line_fields, option_causes, output_causes, output_fields};
+ghost use Rattle.shape_base.specs.Fields.{made_or_rejected};
 
-use crate::grouping::group_schema;
-use crate::inputs::{first, second};
-use crate::joining::{FULL_OUTER, INNER, LEFT_OUTER, RIGHT_OUTER, join_schema};
-use crate::looking::lookup_schema;
 use crate::modifying::modified_fields;
 use crate::setting::set_fields;
 use ds_schema::{Field, Schema};
 use ds_value::{Kind, Name, NoMemory};
 use flow_graph::{OpKind, SetSpec};
+use keyed_shape::{
+    FULL_OUTER, INNER, LEFT_OUTER, RIGHT_OUTER, group_schema, join_schema, lookup_schema,
+};
+use shape_base::inputs::{first, second};
 use std::alloc::Global;
 
 fn line_name(alloc: Global) -> Result<Name, NoMemory>

@@ -1,22 +1,23 @@
 //! What the names and the expressions of an operator's options stand for.
 
 ghost use Rattle.std.specs.Prelude.{◌≡◌, ◌<◌, ◌^◌, ◌++◌, [], ◌∷◌, true, None, length, map, IfOk};
-ghost use Rattle.op_shape.specs.Causes.{first_cause};
+ghost use Rattle.shape_base.specs.Causes.{first_cause};
 ghost use Rattle.op_shape.specs.Exprs.{exprs_of};
-ghost use Rattle.op_shape.specs.Keyed.{both_cause};
-ghost use Rattle.op_shape.specs.Naming.{has_keys, key_columns, NamesDiffer};
-ghost use Rattle.op_shape.specs.Options.{IsKnown, IsFed, KeysDistinct, first_fields, key_cause, option_causes, output_causes, operator_keys, operator_columns, operator_parts};
+ghost use Rattle.keyed_shape.specs.Keyed.{both_cause};
+ghost use Rattle.shape_base.specs.Naming.{has_keys, key_columns, NamesDiffer, key_cause};
+ghost use Rattle.op_shape.specs.Options.{IsKnown, IsFed, KeysDistinct, option_causes, output_causes, operator_keys, operator_columns, operator_parts};
+ghost use Rattle.shape_base.specs.Fields.{first_fields};
 
 use crate::expressions::{one_expr, set_exprs};
-use crate::grouping::source_columns;
-use crate::inputs::{first, second};
 use crate::modifying::kept_columns;
-use crate::naming::key_list;
 use crate::setting::set_columns;
 use ds_expr::Typed;
 use ds_schema::{Field, KeyList, Schema};
 use ds_value::{Items, Name, NoMemory};
 use flow_graph::{OpKind, OpParts};
+use keyed_shape::source_columns;
+use shape_base::inputs::{first, second};
+use shape_base::naming::key_list;
 use std::alloc::Global;
 
 fn one_key(

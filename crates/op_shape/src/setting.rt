@@ -4,14 +4,14 @@ ghost use Rattle.std.specs.Prelude.{◌≡◌, ◌<◌, ◌^◌, length, IfOk, O
 ghost use Rattle.std.specs.List.{list_any};
 ghost use Rattle.std.specs.Str.{bytes_eq};
 ghost use Rattle.flow_graph.specs.declared.op_kind.SetSpec.{SetSpec as SetOf};
-ghost use Rattle.op_shape.specs.Naming.{columns};
+ghost use Rattle.shape_base.specs.Naming.{columns};
 ghost use Rattle.op_shape.specs.Columns.{put_field, set_fields, set_names, set_columns, stand_twice, sets_cause};
 
-use crate::ShapeWhy;
-use crate::naming::{column, place_of};
 use ds_schema::Field;
 use ds_value::{Copied, Items, Name, NoMemory};
 use flow_graph::SetSpec;
+use shape_base::ShapeWhy;
+use shape_base::naming::{column, place_of};
 use std::alloc::Global;
 
 fn put_field(fields: &mut Vec<Field>, new: Field) -> Result<(), NoMemory>

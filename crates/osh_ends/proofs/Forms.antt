@@ -7,10 +7,10 @@ use Rattle.ds_text.specs.Forms.{FormFits, IsDelimiter, IsWidth}
 use Rattle.flow_graph.specs.Charts.{Chart, links_into, op_at}
 use Rattle.flow_graph.specs.declared.op_kind.OpKind.{OpKind}
 use Rattle.flow_graph.specs.declared.op_kind.OpKind.TheVariants as kind
-use Rattle.op_shape.specs.declared.fault.ShapeWhy.TheVariants as why
-use Rattle.op_shape.specs.Causes.{cause_if, first_cause}
+use Rattle.shape_base.specs.declared.fault.ShapeWhy.TheVariants as why
+use Rattle.shape_base.specs.Causes.{cause_if, first_cause}
 use Rattle.op_shape.specs.Options.{option_causes, output_causes, widths_cause}
-use Rattle.op_shape.proofs.Firsts.{none_both}
+use Rattle.shape_base.proofs.Firsts.{none_both}
 use Rattle.flow_shape.specs.Refusals.{Fits, input_cause, inputs_at}
 use Rattle.flow_rules.specs.Exports.{input_of}
 use Rattle.osh_ends.specs.FlowFiles.{fields_of, form}

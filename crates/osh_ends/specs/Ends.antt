@@ -28,7 +28,7 @@ use Rattle.flow_derive.specs.LinkStates.{state_at}
 use Rattle.flow_rules.specs.Verdicts.{IsVerdict, nodes_of}
 use Rattle.flow_score.specs.Scores.{IsMismatch}
 use Rattle.flow_score.specs.Seating.{Seats, Crowds}
-use Rattle.op_shape.specs.declared.fault.ShapeWhy.{ShapeWhy}
+use Rattle.shape_base.specs.declared.fault.ShapeWhy.{ShapeWhy}
 use Rattle.flow_shape.specs.Refusals.{IsShapeOf, Refuses}
 use Rattle.osh_read.specs.declared.fault.OshWhy.{OshWhy}
 use Rattle.osh_read.specs.Flows.{flow_of}

@@ -6,8 +6,8 @@ use Rattle.config_read.specs.declared.fault.ConfigWhy.TheVariants as config_why
 use Rattle.ds_port.specs.Causes.{Rose}
 use Rattle.ds_port.specs.FileMap.{FileMap}
 use Rattle.flow_outputs.specs.Outputs.{NamedFile, with_files}
-use Rattle.op_shape.specs.declared.fault.ShapeWhy.{ShapeWhy}
-use Rattle.op_shape.specs.declared.fault.ShapeWhy.TheVariants as shape_why
+use Rattle.shape_base.specs.declared.fault.ShapeWhy.{ShapeWhy}
+use Rattle.shape_base.specs.declared.fault.ShapeWhy.TheVariants as shape_why
 use Rattle.osh_read.specs.declared.fault.OshWhy.{OshWhy}
 use Rattle.osh_read.specs.declared.fault.OshWhy.TheVariants as flow_why
 use Rattle.osh_ends.specs.Ends.{End, usage, unbuilt, bad_flow, bad_config, bad_shape, absent, refused, checked, mismatch, crowded, done, faulty, end_status, ComesTo}

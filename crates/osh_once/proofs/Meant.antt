@@ -16,7 +16,7 @@ use Rattle.flow_graph.specs.Operators.{Op, faults, import, result}
 use Rattle.flow_graph.specs.Runs.{Forward, Means, Node, Out, meant_faults}
 use Rattle.flow_rules.specs.Verdicts.{node_at, nodes_of}
 use Rattle.flow_rules.proofs.FlowAll.{along_all}
-use Rattle.op_shape.specs.Causes.{first_cause}
+use Rattle.shape_base.specs.Causes.{first_cause}
 use Rattle.op_shape.specs.Options.{option_causes}
 use Rattle.flow_shape.specs.Refusals.{IsShapeOf, inputs_at}
 use Rattle.flow_shape.proofs.Causing.{all_at}

@@ -28,8 +28,8 @@ use Rattle.flow_graph.specs.declared.op_kind.AggSpec.TheVariants as agg
 use Rattle.flow_graph.specs.declared.op_kind.SetSpec.{SetSpec}
 use Rattle.flow_graph.specs.declared.op_kind.OpKind.{OpKind}
 use Rattle.flow_graph.specs.declared.op_kind.OpKind.TheVariants as kind
-use Rattle.op_shape.specs.Keyed.{result_name}
-use Rattle.op_shape.specs.Naming.{NamesDiffer}
+use Rattle.keyed_shape.specs.Keyed.{result_name}
+use Rattle.shape_base.specs.Naming.{NamesDiffer}
 use Rattle.op_shape.specs.Options.{KeysDistinct, OptionsStand}
 use Rattle.osh_table.specs.declared.operator.OpName.{OpName}
 use Rattle.osh_table.specs.declared.operator.OpName.TheVariants as op

@@ -9,8 +9,9 @@ use Rattle.flow_graph.specs.declared.flow.OpSpec.{OpSpec}
 use Rattle.flow_graph.specs.declared.op_kind.OpKind.{OpKind}
 use Rattle.flow_graph.specs.declared.op_kind.OpKind.TheVariants as kind
 use Rattle.flow_graph.specs.declared.parts.Stored.{Stored}
-use Rattle.op_shape.specs.Causes.{first_cause}
-use Rattle.op_shape.specs.Options.{first_fields, option_causes}
+use Rattle.shape_base.specs.Causes.{first_cause}
+use Rattle.shape_base.specs.Fields.{first_fields}
+use Rattle.op_shape.specs.Options.{option_causes}
 use Rattle.flow_shape.specs.Refusals.{IsShapeOf, fields_at, inputs_at}
 use Rattle.flow_shape.proofs.Causing.{all_at}
 use Rattle.flow_shape.proofs.Holding.{first_of}

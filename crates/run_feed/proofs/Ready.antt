@@ -28,7 +28,8 @@ use Rattle.flow_score.specs.Scores.{choice_of, degree, degree_at as score_degree
 use Rattle.flow_ops.specs.Keyed.{group_of}
 use Rattle.flow_ops.specs.Kept.{GivesFields}
 use Rattle.flow_shape.specs.Methods.{written_route}
-use Rattle.op_shape.specs.Options.{IsKeyed, first_fields, output_fields}
+use Rattle.op_shape.specs.Options.{IsKeyed, output_fields}
+use Rattle.shape_base.specs.Fields.{first_fields}
 use Rattle.flow_shape.specs.Ports.{may_have_out}
 use Rattle.flow_shape.specs.Refusals.{fields_at, inputs_at, written_at}
 use Rattle.flow_shape.proofs.Causing.{all_at}

@@ -26,7 +26,8 @@ use Rattle.flow_graph.specs.Fitting.{FitsFields}
 use Rattle.flow_graph.specs.FlowShape.{IsShape}
 use Rattle.flow_graph.specs.Operators.{Op, by_row, group, import, remdup, result, tsort}
 use Rattle.flow_graph.specs.RowRules.{row_rule}
-use Rattle.op_shape.specs.Options.{line_fields, made_or_rejected, output_fields}
+use Rattle.op_shape.specs.Options.{line_fields, output_fields}
+use Rattle.shape_base.specs.Fields.{made_or_rejected}
 use Rattle.flow_shape.specs.Refusals.{IsShapeOf, fields_at, inputs_at}
 use Rattle.flow_ops.specs.Keyed.{group_of}
 use Rattle.flow_sound.specs.Kinds.{AreOfKinds, IsOfKind, LineFits}

@@ -2,7 +2,7 @@ use Rattle.std.proofs.Common.{◌≡◌, ◌++◌, Some, None, IfOk, refl, ap, �
 use Rattle.std.proofs.lemmas.List.{length-map}
 use Rattle.flow_graph.specs.Charts.{no_op}
 use Rattle.flow_graph.specs.declared.flow.OpSpec.{OpSpec}
-use Rattle.op_shape.specs.Causes.{first_cause}
+use Rattle.shape_base.specs.Causes.{first_cause}
 use Rattle.op_shape.specs.Options.{option_causes, output_causes}
 use Rattle.flow_shape.specs.Refusals.{chart_of, operator_cause}
 use Rattle.flow_shape.proofs.Causing.{known_at, cause_parts}

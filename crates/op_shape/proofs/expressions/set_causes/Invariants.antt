@@ -1,5 +1,5 @@
 use Rattle.std.proofs.Common.{◌≡◌, drop}
-use Rattle.op_shape.specs.Causes.{first_cause}
+use Rattle.shape_base.specs.Causes.{first_cause}
 use Rattle.op_shape.specs.Exprs.{set_causes}
 use Rattle.op_shape.proofs.expressions.set_causes.Given as goal
 

@@ -1,5 +1,5 @@
 use Rattle.std.proofs.Common.{◌≡◌, map, take}
-use Rattle.op_shape.specs.Columns.{field_at}
+use Rattle.shape_base.specs.Fields.{field_at}
 use Rattle.op_shape.proofs.modifying.fields_at.Given as goal
 
 abbrev pub invariant-loop-col : goal.invariant-loop-col

@@ -1,6 +1,7 @@
 use Rattle.std.proofs.Common.{◌≡◌, not}
 use Rattle.std.specs.List.{filter, range_with_len}
-use Rattle.op_shape.specs.Columns.{field_at, is_among}
+use Rattle.shape_base.specs.Fields.{field_at}
+use Rattle.op_shape.specs.Columns.{is_among}
 use Rattle.op_shape.proofs.modifying.left_columns.Given as goal
 
 abbrev pub invariant-loop-i : goal.invariant-loop-i

@@ -1,8 +1,8 @@
 use Rattle.std.proofs.Common.{◌≡◌, ap, sym, ◌∙◌}
 use Rattle.op_shape.specs.Columns.{set_fields, sets_cause}
 use Rattle.op_shape.specs.Exprs.{set_causes}
-use Rattle.op_shape.specs.Widths.{fields_cause}
-use Rattle.op_shape.proofs.Firsts.{first_three, or_else}
+use Rattle.shape_base.specs.Widths.{fields_cause}
+use Rattle.shape_base.proofs.Firsts.{first_three, or_else}
 use Rattle.op_shape.proofs.options.transform_cause.Goals as goal
 
 pub returns-in-Some : goal.returns-in-Some

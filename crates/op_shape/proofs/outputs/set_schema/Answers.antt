@@ -1,7 +1,8 @@
 use Rattle.std.proofs.Common.{ap, subst, sym, ◌∙◌}
 use Rattle.ds_schema.specs.Schemas.{IsSchema}
 use Rattle.op_shape.specs.Columns.{set_fields}
-use Rattle.op_shape.proofs.Making.{made_schema, set_each}
+use Rattle.shape_base.proofs.Making.{made_schema}
+use Rattle.op_shape.proofs.Making.{set_each}
 use Rattle.op_shape.proofs.outputs.set_schema.Goals as goal
 
 pub from_vec-requires : goal.from_vec-requires

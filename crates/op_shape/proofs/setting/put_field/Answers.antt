@@ -1,6 +1,6 @@
 use Rattle.std.proofs.Common.{◌≡◌, ◌<◌, Some, ap, arith, length, position, set, sym, ◌∙◌}
-use Rattle.op_shape.specs.Naming.{column, is_named}
-use Rattle.op_shape.proofs.Places.{place_none, place_some}
+use Rattle.shape_base.specs.Naming.{column, is_named}
+use Rattle.shape_base.proofs.Places.{place_none, place_some}
 use Rattle.op_shape.proofs.Putting.{put_behind, put_set}
 use Rattle.op_shape.proofs.setting.put_field.Goals as goal
 

@@ -1,9 +1,0 @@
-use Rattle.std.proofs.Common.{◌≡◌, ◌++◌, not, map}
-use Rattle.std.specs.List.{filter, range_with_len}
-use Rattle.op_base.specs.Columns.{is_in}
-use Rattle.op_shape.specs.Columns.{field_at}
-use Rattle.op_shape.specs.Keyed.{nullable_if}
-use Rattle.op_shape.proofs.keying.push_rest.Given as goal
-
-abbrev pub invariant-loop-i : goal.invariant-loop-i
-invariant-loop-i l = l.made.items ≡ l.fn.made.items ++ map (nullable_if l.test) (map (field_at l.fields) (filter (λ c. not (is_in c l.columns)) (range_with_len 0 l.i)))

@@ -1,6 +1,0 @@
-use Rattle.std.proofs.Common.{◌≡◌, take}
-use Rattle.op_shape.specs.Naming.{columns}
-use Rattle.op_shape.proofs.naming.columns.Given as goal
-
-abbrev pub invariant-loop-name : goal.invariant-loop-name
-invariant-loop-name l = l.cols ≡ columns l.fields (take l.name-index l.names)

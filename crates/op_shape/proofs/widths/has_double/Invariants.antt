@@ -1,6 +1,0 @@
-use Rattle.std.proofs.Common.{◌≡◌, drop}
-use Rattle.op_shape.specs.Widths.{has_double}
-use Rattle.op_shape.proofs.widths.has_double.Given as goal
-
-abbrev pub invariant-loop-i : goal.invariant-loop-i
-invariant-loop-i l = has_double (drop l.i l.fields) ≡ has_double l.fields
