@@ -9,9 +9,10 @@ ghost use Rattle.op_shape.specs.Options.{IsKnown, KeysDistinct, OptionsStand};
 ghost use Rattle.flow_shape.specs.Refusals.{HasOnlyKnown};
 ghost use Rattle.flow_shape.specs.Spelled.{IsJoined};
 
+use super::tests::name;
 use crate::{ShapeFault, ShapeWhy, shape};
 use ds_schema::read_schema;
-use ds_value::{Items, Name, NoMemory};
+use ds_value::{Items, NoMemory};
 use flow_graph::{Flag, Flow, LinkSpec, Mark, Method, OpKind, OpSpec};
 use op_base::Missing;
 use std::alloc::Global;
@@ -75,14 +76,7 @@ fn flow_of(alloc: Global, ops: Items<OpSpec>) -> Result<Flow, NoMemory>
     })
 }
 
-fn name(alloc: Global, text: &str) -> Result<Name, Fail> {
-    match Name::from_bytes(alloc, text.as_bytes())? {
-        Some(name) => Ok(name),
-        None => Err("no name".into()),
-    }
-}
-
-fn import(alloc: Global, file: &str, schema: &str) -> Result<OpSpec, Fail>
+fn import(alloc: Global, file: &[u8], schema: &str) -> Result<OpSpec, Fail>
     ensures { IfOk result (λ s. IsKnown s.kind × (KeysDistinct s.kind × OptionsStand s.kind)) }
 {
     Ok(OpSpec {
@@ -107,7 +101,7 @@ fn export(alloc: Global) -> Result<OpSpec, Fail>
     widths.push(5)?;
     Ok(OpSpec {
         kind: OpKind::Export {
-            file: name(alloc, "out.txt")?,
+            file: name(alloc, b"out.txt")?,
             delim: b',',
             fixed: Some(widths),
         },
@@ -119,7 +113,7 @@ fn by_id(alloc: Global, looks_up: bool) -> Result<OpSpec, Fail>
     ensures { IfOk result (λ s. IsKnown s.kind × (KeysDistinct s.kind × OptionsStand s.kind)) }
 {
     let mut key = Items::new(alloc);
-    key.push((name(alloc, "id")?, false))?;
+    key.push((name(alloc, b"id")?, false))?;
     let kind = if looks_up {
         OpKind::Lookup {
             key,
@@ -137,8 +131,8 @@ fn by_id(alloc: Global, looks_up: bool) -> Result<OpSpec, Fail>
 /// The first fault of a flow with a join or a lookup by `id`, of people with what is read from
 /// the second file; none where it has a shape.
 fn fault(alloc: Global, looks_up: bool, right: &str) -> Result<Option<(ShapeWhy, u32)>, Fail> {
-    let first = import(alloc, "l.txt", LEFT)?;
-    let second = import(alloc, "r.txt", right)?;
+    let first = import(alloc, b"l.txt", LEFT)?;
+    let second = import(alloc, b"r.txt", right)?;
     let ops = pair(alloc, first, second)?;
     let ops = behind(ops, by_id(alloc, looks_up)?, export(alloc)?)?;
     let flow = flow_of(alloc, ops)?;
@@ -149,22 +143,25 @@ fn fault(alloc: Global, looks_up: bool, right: &str) -> Result<Option<(ShapeWhy,
     }
 }
 
+/// What is read from the second file, and the first fault, with a join and with a lookup.
+static CASES: [(&str, Option<(ShapeWhy, u32)>); 5] = [
+    ("record ( city: string[8]; id: int32; )", None),
+    ("record ( city: string[8]; )", Some((ShapeWhy::Field, 2))),
+    ("record ( id: int64; )", Some((ShapeWhy::Kind, 2))),
+    (
+        "record ( id: int32; name: date; )",
+        Some((ShapeWhy::Double, 2)),
+    ),
+    ("record ( id: int32; )", Some((ShapeWhy::Schemas, 3))),
+];
+
 #[test]
 fn flows_of_two_inputs(rt: HostRuntime) -> Result<(), Fail> {
     let alloc = rt.alloc();
-    let rows = [
-        ("record ( city: string[8]; id: int32; )", None),
-        ("record ( city: string[8]; )", Some((ShapeWhy::Field, 2))),
-        ("record ( id: int64; )", Some((ShapeWhy::Kind, 2))),
-        (
-            "record ( id: int32; name: date; )",
-            Some((ShapeWhy::Double, 2)),
-        ),
-        ("record ( id: int32; )", Some((ShapeWhy::Schemas, 3))),
-    ];
-    for (right, wanted) in &rows {
-        assert_eq!(rt; fault(alloc, false, right)?, *wanted);
-        assert_eq!(rt; fault(alloc, true, right)?, *wanted);
+    for (right, wanted) in &CASES {
+        for looks_up in [false, true] {
+            assert!(rt; fault(alloc, looks_up, right)? == *wanted, "{right}");
+        }
     }
     Ok(())
 }

@@ -9,6 +9,8 @@ ghost use Rattle.flow_shape.specs.Refusals.{HasOnlyKnown};
 ghost use Rattle.flow_shape.specs.Spelled.{IsJoined};
 
 use crate::{ShapeFault, ShapeWhy, shape};
+use Middle::{Filter, Modify, Switch, Transform};
+use Written::{ByColumn, Clashing, Emptied, Narrow, OneWidth, Plain, Rejecting, Wide, With};
 use ds_schema::{Field, read_schema};
 use ds_value::{Bytes, Copied, Items, Name, NoMemory};
 use flow_graph::{Flag, Flow, LinkSpec, Mark, Method, OpKind, OpSpec, SetSpec};
@@ -91,7 +93,7 @@ fn round(alloc: Global) -> Result<Flow, NoMemory>
     })
 }
 
-fn name(alloc: Global, text: &[u8]) -> Result<Name, Fail> {
+pub fn name(alloc: Global, text: &[u8]) -> Result<Name, Fail> {
     match Name::from_bytes(alloc, text)? {
         Some(name) => Ok(name),
         None => Err("no name".into()),
@@ -128,28 +130,39 @@ fn first_fault(alloc: Global, flow: Flow) -> Result<Option<(ShapeWhy, u32)>, NoM
     }
 }
 
-/// The operator in the middle of a flow; fields are written as records of one, and pairs as a
-/// field of the new name and the old name.
+/// A schema of one field, and what it is made from: an expression, or an old name.
+type Made = (&'static [u8], &'static [u8]);
+
+/// The operator in the middle of a flow.
 #[derive(Clone, Copy)]
-enum Middle<'a> {
+enum Middle {
     Copy,
-    Filter(&'a [u8]),
-    Transform((&'a [u8], &'a [u8]), Option<(&'a [u8], &'a [u8])>),
-    Modify(Option<&'a [u8]>, Option<&'a [u8]>, Option<(&'a [u8], &'a [u8])>),
-    Switch(&'a [u8]),
+    Filter(&'static [u8]),
+    Transform(Made, Option<Made>),
+    Modify(Option<&'static [u8]>, Option<&'static [u8]>, Option<Made>),
+    Switch(&'static [u8]),
 }
 
-/// An import, an operator behind a link that may be by modulus of a column, and an export.
+/// How a flow differs from an import of people, a sequential copy and an export.
 #[derive(Clone, Copy)]
-struct Row<'a> {
-    schema: &'a [u8],
-    one_width: bool,
-    reject: bool,
-    middle: Middle<'a>,
-    mark: Mark,
-    column: Option<&'a [u8]>,
-    sink: &'a [u8],
-    one_written: bool,
+enum Written {
+    Plain,
+    /// The import has a reject output.
+    Rejecting,
+    /// The import has one width.
+    OneWidth,
+    /// The rows may be too long.
+    Wide,
+    /// The export's file clashes with the import's.
+    Clashing,
+    /// The link into the copy is by modulus of a column.
+    ByColumn(Mark, &'static [u8]),
+    /// Another operator, which is parallel, in the place of the copy.
+    With(Middle),
+    /// The same, and the export has one width.
+    Narrow(Middle),
+    /// The only column is dropped.
+    Emptied,
 }
 
 fn field(alloc: Global, written: &[u8]) -> Result<Field, Fail>
@@ -165,7 +178,7 @@ fn expression(alloc: Global, text: &[u8]) -> Result<Bytes, NoMemory> {
     Ok(Bytes::from_vec(bytes))
 }
 
-fn set(alloc: Global, written: (&[u8], &[u8])) -> Result<SetSpec, Fail>
+fn set(alloc: Global, written: Made) -> Result<SetSpec, Fail>
     ensures { IfOk result (λ s. IsField s.field) }
 {
     Ok(SetSpec {
@@ -174,11 +187,7 @@ fn set(alloc: Global, written: (&[u8], &[u8])) -> Result<SetSpec, Fail>
     })
 }
 
-fn transform(
-    alloc: Global,
-    first: (&[u8], &[u8]),
-    second: Option<(&[u8], &[u8])>,
-) -> Result<OpKind, Fail>
+fn transform(alloc: Global, first: Made, second: Option<Made>) -> Result<OpKind, Fail>
     ensures { IfOk result (λ k. IsKnown k × KeysDistinct k × OptionsStand k) }
 {
     let mut sets = Items::new(alloc);
@@ -206,7 +215,7 @@ fn at_most_one(alloc: Global, column: Option<&[u8]>) -> Result<Items<Name>, Fail
     Ok(names)
 }
 
-fn renames(alloc: Global, pair: Option<(&[u8], &[u8])>) -> Result<Items<(Name, Name)>, Fail>
+fn renames(alloc: Global, pair: Option<Made>) -> Result<Items<(Name, Name)>, Fail>
     ensures { IfOk result (λ pairs. AllByRecursion (λ (p : List ℕ × List ℕ). IsFieldName (p.0)) pairs) }
 {
     let mut pairs = Items::new(alloc);
@@ -232,7 +241,7 @@ fn switch(alloc: Global, on: &[u8]) -> Result<OpKind, Fail>
     })
 }
 
-fn kind_of(alloc: Global, middle: Middle<'_>) -> Result<OpKind, Fail>
+fn kind_of(alloc: Global, middle: Middle) -> Result<OpKind, Fail>
     ensures { IfOk result (λ k. IsKnown k × KeysDistinct k × OptionsStand k) }
 {
     match middle {
@@ -251,189 +260,140 @@ fn kind_of(alloc: Global, middle: Middle<'_>) -> Result<OpKind, Fail>
     }
 }
 
-fn import(alloc: Global, row: &Row<'_>) -> Result<OpSpec, Fail>
+fn schema_of(written: Written) -> &'static [u8] {
+    match written {
+        Wide => WIDE,
+        Emptied => b"record ( id: int32; )",
+        _ => PEOPLE,
+    }
+}
+
+fn import(alloc: Global, written: Written) -> Result<OpSpec, Fail>
     ensures { IfOk result (λ s. IsKnown s.kind × KeysDistinct s.kind × OptionsStand s.kind) }
 {
     Ok(OpSpec {
         kind: OpKind::Import {
             file: name(alloc, b"in.txt")?,
-            schema: read_schema(alloc, row.schema)?,
+            schema: read_schema(alloc, schema_of(written))?,
             delim: b',',
-            fixed: one_width(alloc, row.one_width)?,
-            reject: row.reject,
+            fixed: one_width(alloc, matches!(written, OneWidth))?,
+            reject: matches!(written, Rejecting),
         },
         mark: Mark::Seq,
     })
 }
 
-fn export(alloc: Global, row: &Row<'_>) -> Result<OpSpec, Fail>
+fn middle_of(written: Written) -> (Middle, Mark) {
+    match written {
+        ByColumn(mark, _) => (Middle::Copy, mark),
+        With(middle) | Narrow(middle) => (middle, Mark::Par),
+        Emptied => (Modify(None, Some(b"id"), None), Mark::Seq),
+        _ => (Middle::Copy, Mark::Seq),
+    }
+}
+
+fn column_of(written: Written) -> Option<&'static [u8]> {
+    match written {
+        ByColumn(_, column) => Some(column),
+        _ => None,
+    }
+}
+
+fn file_of(written: Written) -> &'static [u8] {
+    match written {
+        Clashing => b"in.txt.part",
+        _ => b"out.txt",
+    }
+}
+
+fn export(alloc: Global, written: Written) -> Result<OpSpec, Fail>
     ensures { IfOk result (λ s. IsKnown s.kind × KeysDistinct s.kind × OptionsStand s.kind) }
 {
     Ok(OpSpec {
         kind: OpKind::Export {
-            file: name(alloc, row.sink)?,
+            file: name(alloc, file_of(written))?,
             delim: b',',
-            fixed: one_width(alloc, row.one_written)?,
+            fixed: one_width(alloc, matches!(written, Narrow(_)))?,
         },
         mark: Mark::Seq,
     })
 }
 
-fn answer(alloc: Global, row: &Row<'_>) -> Result<Option<(ShapeWhy, u32)>, Fail> {
-    let first = import(alloc, row)?;
+fn answer(alloc: Global, written: Written) -> Result<Option<(ShapeWhy, u32)>, Fail> {
+    let first = import(alloc, written)?;
+    let (middle, mark) = middle_of(written);
     let middle = OpSpec {
-        kind: kind_of(alloc, row.middle)?,
-        mark: row.mark,
+        kind: kind_of(alloc, middle)?,
+        mark,
     };
-    let last = export(alloc, row)?;
-    let method = method(alloc, row.column)?;
+    let last = export(alloc, written)?;
+    let method = method(alloc, column_of(written))?;
     let flow = flow_of(alloc, first, middle, last, method)?;
     Ok(first_fault(alloc, flow)?)
 }
 
-/// The first fault of an import of people, an operator that isn't sequential, and an export.
-fn fault_of(alloc: Global, middle: Middle<'_>) -> Result<Option<(ShapeWhy, u32)>, Fail> {
-    let row = Row {
-        middle,
-        mark: Mark::Par,
-        ..PLAIN
-    };
-    answer(alloc, &row)
-}
+const NEXT: Made = (b"record ( next: int32; )", b"id + 1");
 
-/// The same, where the export has one width.
-fn fault_of_one(alloc: Global, middle: Middle<'_>) -> Result<Option<(ShapeWhy, u32)>, Fail> {
-    let row = Row {
-        middle,
-        mark: Mark::Par,
-        one_written: true,
-        ..PLAIN
-    };
-    answer(alloc, &row)
-}
+const DATED: Made = (b"record ( id: date; )", b"date(\"2024-01-31\")");
 
-fn round_fault(alloc: Global) -> Result<Option<(ShapeWhy, u32)>, NoMemory> {
-    first_fault(alloc, round(alloc)?)
-}
+const NAMED: Made = (b"record ( name: date; )", b"id");
 
-const PLAIN: Row<'static> = Row {
-    schema: PEOPLE,
-    one_width: false,
-    reject: false,
-    middle: Middle::Copy,
-    mark: Mark::Seq,
-    column: None,
-    sink: b"out.txt",
-    one_written: false,
-};
+const WRONG: Option<(ShapeWhy, u32)> = Some((ShapeWhy::Expression, 1));
 
-const NEXT: (&[u8], &[u8]) = (b"record ( next: int32; )", b"id + 1");
+const UNKNOWN: Option<(ShapeWhy, u32)> = Some((ShapeWhy::Field, 1));
 
-const NAMED: (&[u8], &[u8]) = (b"record ( name: date; )", b"id");
+const DOUBLE: Option<(ShapeWhy, u32)> = Some((ShapeWhy::Double, 1));
 
-#[test]
-fn ports_methods_and_files(rt: HostRuntime) -> Result<(), Fail> {
-    let alloc = rt.alloc();
-    assert_eq!(rt; answer(alloc, &PLAIN)?, None);
-    let rejecting = Row {
-        reject: true,
-        ..PLAIN
-    };
-    assert_eq!(rt; answer(alloc, &rejecting)?, Some((ShapeWhy::Ports, 0)));
-    assert_eq!(rt; round_fault(alloc)?, Some((ShapeWhy::Cycle, 0)));
-    let sequential = Row {
-        column: Some(b"id"),
-        ..PLAIN
-    };
-    assert_eq!(rt; answer(alloc, &sequential)?, Some((ShapeWhy::Method, 1)));
-    let clashing = Row {
-        sink: b"in.txt.part",
-        ..PLAIN
-    };
-    assert_eq!(rt; answer(alloc, &clashing)?, Some((ShapeWhy::Files, 2)));
-    Ok(())
-}
+/// Flows with their first faults.
+static CASES: [(Written, Option<(ShapeWhy, u32)>); 24] = [
+    (Plain, None),
+    (Rejecting, Some((ShapeWhy::Ports, 0))),
+    (ByColumn(Mark::Seq, b"id"), Some((ShapeWhy::Method, 1))),
+    (Clashing, Some((ShapeWhy::Files, 2))),
+    (ByColumn(Mark::Par, b"zip"), UNKNOWN),
+    (ByColumn(Mark::Par, b"name"), Some((ShapeWhy::Kind, 1))),
+    (OneWidth, Some((ShapeWhy::Schemas, 0))),
+    (Wide, Some((ShapeWhy::Wide, 0))),
+    (With(Filter(b"id > 3")), None),
+    (With(Filter(b"zip > 3")), WRONG),
+    (With(Filter(b"id + 3")), WRONG),
+    (With(Switch(b"id % 5")), None),
+    (With(Switch(b"id * 0.5")), WRONG),
+    (With(Transform(NEXT, Some(DATED))), None),
+    (
+        With(Transform((b"record ( next: int8; )", b"name"), None)),
+        WRONG,
+    ),
+    // each set sees the fields of the input, and a wrong one comes before a doubled name
+    (
+        With(Transform(NEXT, Some((b"record ( more: int32; )", b"next")))),
+        WRONG,
+    ),
+    (
+        With(Transform(NEXT, Some((b"record ( next: int8; )", b"id")))),
+        DOUBLE,
+    ),
+    (
+        With(Transform(NEXT, Some((b"record ( next: int8; )", b"zip")))),
+        WRONG,
+    ),
+    (Narrow(Modify(Some(b"id"), None, Some(NAMED))), None),
+    (
+        Narrow(Modify(None, None, None)),
+        Some((ShapeWhy::Schemas, 2)),
+    ),
+    (Narrow(Modify(None, Some(b"zip"), None)), UNKNOWN),
+    (Narrow(Modify(None, Some(b"id"), Some(NAMED))), UNKNOWN),
+    (Narrow(Modify(None, None, Some(NAMED))), DOUBLE),
+    (Emptied, Some((ShapeWhy::Wide, 1))),
+];
 
 #[test]
-fn columns_and_widths(rt: HostRuntime) -> Result<(), Fail> {
+fn first_faults(rt: HostRuntime) -> Result<(), Fail> {
     let alloc = rt.alloc();
-    let unknown = Row {
-        column: Some(b"zip"),
-        mark: Mark::Par,
-        ..PLAIN
-    };
-    assert_eq!(rt; answer(alloc, &unknown)?, Some((ShapeWhy::Field, 1)));
-    let text = Row {
-        column: Some(b"name"),
-        mark: Mark::Par,
-        ..PLAIN
-    };
-    assert_eq!(rt; answer(alloc, &text)?, Some((ShapeWhy::Kind, 1)));
-    let fixed = Row {
-        one_width: true,
-        ..PLAIN
-    };
-    assert_eq!(rt; answer(alloc, &fixed)?, Some((ShapeWhy::Schemas, 0)));
-    let wide = Row {
-        schema: WIDE,
-        ..PLAIN
-    };
-    assert_eq!(rt; answer(alloc, &wide)?, Some((ShapeWhy::Wide, 0)));
-    Ok(())
-}
-
-#[test]
-fn tested_and_switched(rt: HostRuntime) -> Result<(), Fail> {
-    let alloc = rt.alloc();
-    let wrong = Some((ShapeWhy::Expression, 1));
-    assert_eq!(rt; fault_of(alloc, Middle::Filter(b"id > 3"))?, None);
-    assert_eq!(rt; fault_of(alloc, Middle::Filter(b"zip > 3"))?, wrong);
-    assert_eq!(rt; fault_of(alloc, Middle::Filter(b"id + 3"))?, wrong);
-    assert_eq!(rt; fault_of(alloc, Middle::Switch(b"id % 5"))?, None);
-    assert_eq!(rt; fault_of(alloc, Middle::Switch(b"id * 0.5"))?, wrong);
-    Ok(())
-}
-
-/// Each set sees the fields of the input, and a wrong one comes before a doubled name.
-#[test]
-fn set_columns(rt: HostRuntime) -> Result<(), Fail> {
-    let alloc = rt.alloc();
-    let wrong = Some((ShapeWhy::Expression, 1));
-    let good = Middle::Transform(
-        NEXT,
-        Some((b"record ( id: date; )", b"date(\"2024-01-31\")")),
-    );
-    assert_eq!(rt; fault_of(alloc, good)?, None);
-    let text = Middle::Transform((b"record ( next: int8; )", b"name"), None);
-    assert_eq!(rt; fault_of(alloc, text)?, wrong);
-    let later = Middle::Transform(NEXT, Some((b"record ( more: int32; )", b"next")));
-    assert_eq!(rt; fault_of(alloc, later)?, wrong);
-    let doubled = Middle::Transform(NEXT, Some((b"record ( next: int8; )", b"id")));
-    assert_eq!(rt; fault_of(alloc, doubled)?, Some((ShapeWhy::Double, 1)));
-    let both = Middle::Transform(NEXT, Some((b"record ( next: int8; )", b"zip")));
-    assert_eq!(rt; fault_of(alloc, both)?, wrong);
-    Ok(())
-}
-
-#[test]
-fn kept_columns(rt: HostRuntime) -> Result<(), Fail> {
-    let alloc = rt.alloc();
-    let unknown = Some((ShapeWhy::Field, 1));
-    let renamed = Middle::Modify(Some(b"id"), None, Some(NAMED));
-    assert_eq!(rt; fault_of_one(alloc, renamed)?, None);
-    let both = Middle::Modify(None, None, None);
-    assert_eq!(rt; fault_of_one(alloc, both)?, Some((ShapeWhy::Schemas, 2)));
-    let dropped = Middle::Modify(None, Some(b"zip"), None);
-    assert_eq!(rt; fault_of_one(alloc, dropped)?, unknown);
-    let unkept = Middle::Modify(None, Some(b"id"), Some(NAMED));
-    assert_eq!(rt; fault_of_one(alloc, unkept)?, unknown);
-    let doubled = Middle::Modify(None, None, Some(NAMED));
-    assert_eq!(rt; fault_of_one(alloc, doubled)?, Some((ShapeWhy::Double, 1)));
-    let nothing = Row {
-        schema: b"record ( id: int32; )",
-        middle: Middle::Modify(None, Some(b"id"), None),
-        ..PLAIN
-    };
-    assert_eq!(rt; answer(alloc, &nothing)?, Some((ShapeWhy::Wide, 1)));
+    for (i, (written, fault)) in CASES.iter().enumerate() {
+        assert!(rt; answer(alloc, *written)? == *fault, "case {i}");
+    }
+    assert!(rt; first_fault(alloc, round(alloc)?)? == Some((ShapeWhy::Cycle, 0)));
     Ok(())
 }

@@ -1,11 +1,13 @@
-ghost use Rattle.std.specs.Prelude.{None, IfOk};
+ghost use Rattle.std.specs.Prelude.{length, IfOk};
 ghost use Rattle.ds_schema.specs.Schemas.{IsField};
 ghost use Rattle.op_shape.specs.Naming.{NamesDiffer};
 ghost use Rattle.op_shape.specs.Options.{IsKnown, IsFed, KeysDistinct, OptionsStand};
 
 use super::naming::{columns, has_keys, key_list};
 use super::*;
-use ds_expr::shape_of;
+use Found::{Cause, Fields, Nothing, Parts};
+use Op::{Filter, Keep, Leave, Narrow, Switch, Transform, Tsort};
+use ShapeWhy::{Double, Expression, Schemas, Wide};
 use ds_schema::{Field, KeyList, Schema, print_schema, read_names, read_schema};
 use ds_value::{Bytes, Copied, Items, Name, NoMemory};
 use flow_graph::{OpKind, OpParts, SetSpec};
@@ -22,23 +24,36 @@ const TWICE: &str = "record ( twice: int64; )";
 
 const NAME: &str = "record ( name: nullable string[4]; )";
 
+const SET: &str = "record ( id: int32; name: nullable string[4]; paid: decimal[8,2]; sum: int64; )";
+
+/// An operator of one input; an export is of one width.
 #[derive(Clone, Copy)]
 enum Op {
-    Export,
     Narrow,
-    Copy,
     Filter,
     Transform,
     Keep,
-    Drop,
+    Leave,
     Switch,
     Tsort,
 }
 
-/// An operator with its options: what is tested, switched on, kept, dropped or sorted by; two
-/// sets, of which the second may be missing, each as a schema of one field and an expression; or
-/// a renamed column, the new name as a schema of one field.
-type Written<'a> = (Op, [&'a str; 4]);
+/// What an operator is tested, switched on, kept, left out or sorted by; one or two sets, each a
+/// schema of one field and an expression; or, behind what is kept, the new name and the old name
+/// of a column, the new name as a schema of one field.
+type Options = &'static [&'static str];
+
+/// What is found at an operator.
+#[derive(Clone, Copy)]
+pub enum Found {
+    Cause(ShapeWhy),
+    Nothing,
+    /// The columns, the number of expressions, and the columns of each key list, with whether
+    /// they go down, that its options stand for.
+    Parts(&'static [u32], usize, &'static [&'static [(u32, bool)]]),
+    /// The schema of an output.
+    Fields(u32, &'static str),
+}
 
 fn bytes(alloc: Global, text: &str) -> Result<Bytes, NoMemory> {
     let mut bytes = Bytes::new(alloc);
@@ -46,7 +61,7 @@ fn bytes(alloc: Global, text: &str) -> Result<Bytes, NoMemory> {
     Ok(bytes)
 }
 
-fn name(alloc: Global, text: &str) -> Result<Name, Fail> {
+pub fn name(alloc: Global, text: &str) -> Result<Name, Fail> {
     match Name::from_bytes(alloc, text.as_bytes())? {
         Some(name) => Ok(name),
         None => Err("no name".into()),
@@ -60,13 +75,21 @@ fn names(alloc: Global, text: &str) -> Result<Items<Name>, Fail> {
     }
 }
 
+/// An option; an empty text where there is none.
+fn option(options: Options, i: usize) -> &'static str {
+    match options.get(i) {
+        Some(option) => *option,
+        None => "",
+    }
+}
+
 fn first_field(schema: &Schema) -> Result<Field, NoMemory>
     ensures { IfOk result IsField }
 {
     schema.as_slice()[0].copied()
 }
 
-fn field(alloc: Global, text: &str) -> Result<Field, Fail>
+pub fn field(alloc: Global, text: &str) -> Result<Field, Fail>
     ensures { IfOk result IsField }
 {
     let schema = read_schema(alloc, text.as_bytes())?;
@@ -82,14 +105,13 @@ fn set(alloc: Global, text: &str, expr: &str) -> Result<SetSpec, Fail>
     })
 }
 
-fn transform(alloc: Global, options: [&str; 4]) -> Result<OpKind, Fail>
+fn transform(alloc: Global, options: Options) -> Result<OpKind, Fail>
     ensures { IfOk result (λ k. IsKnown k × (IsFed k 1 × (KeysDistinct k × OptionsStand k))) }
 {
-    let [first, expr, second, other] = options;
     let mut sets = Items::new(alloc);
-    sets.push(set(alloc, first, expr)?)?;
-    if !second.is_empty() {
-        sets.push(set(alloc, second, other)?)?;
+    sets.push(set(alloc, option(options, 0), option(options, 1))?)?;
+    if options.len() > 2 {
+        sets.push(set(alloc, option(options, 2), option(options, 3))?)?;
     }
     Ok(OpKind::Transform {
         set: sets,
@@ -97,17 +119,16 @@ fn transform(alloc: Global, options: [&str; 4]) -> Result<OpKind, Fail>
     })
 }
 
-fn keep(alloc: Global, options: [&str; 4]) -> Result<OpKind, Fail>
+fn keep(alloc: Global, options: Options) -> Result<OpKind, Fail>
     ensures { IfOk result (λ k. IsKnown k × (IsFed k 1 × (KeysDistinct k × OptionsStand k))) }
 {
-    let [kept, new, old, _] = options;
     let mut pairs = Items::new(alloc);
-    if !new.is_empty() {
-        let field = field(alloc, new)?;
-        pairs.push((field.name, name(alloc, old)?))?;
+    if options.len() > 1 {
+        let field = field(alloc, option(options, 1))?;
+        pairs.push((field.name, name(alloc, option(options, 2))?))?;
     }
     Ok(OpKind::Modify {
-        keep: names(alloc, kept)?,
+        keep: names(alloc, option(options, 0))?,
         drop: Items::new(alloc),
         rename: pairs,
     })
@@ -123,13 +144,10 @@ fn dropped(alloc: Global, drop: &str) -> Result<OpKind, Fail>
     })
 }
 
-fn one_width(alloc: Global, wanted: bool) -> Result<Option<Items<u32>>, NoMemory> {
-    if !wanted {
-        return Ok(None);
-    }
+fn one_width(alloc: Global) -> Result<Items<u32>, NoMemory> {
     let mut widths = Items::new(alloc);
     widths.push(5)?;
-    Ok(Some(widths))
+    Ok(widths)
 }
 
 fn one_key(alloc: Global, column: &str) -> Result<Items<(Name, bool)>, Fail>
@@ -164,13 +182,13 @@ fn import(alloc: Global) -> Result<OpKind, Fail>
     })
 }
 
-fn export(alloc: Global, fixed: bool) -> Result<OpKind, Fail>
+fn export(alloc: Global) -> Result<OpKind, Fail>
     ensures { IfOk result (λ k. IsKnown k × (IsFed k 1 × (KeysDistinct k × OptionsStand k))) }
 {
     Ok(OpKind::Export {
         file: name(alloc, "out.txt")?,
         delim: b',',
-        fixed: one_width(alloc, fixed)?,
+        fixed: Some(one_width(alloc)?),
     })
 }
 
@@ -191,141 +209,41 @@ fn tsort(alloc: Global, column: &str) -> Result<OpKind, Fail>
     })
 }
 
-fn kind(alloc: Global, written: Written<'_>) -> Result<OpKind, Fail>
+fn kind(alloc: Global, op: Op, options: Options) -> Result<OpKind, Fail>
     ensures { IfOk result (λ k. IsKnown k × (IsFed k 1 × (KeysDistinct k × OptionsStand k))) }
 {
-    let (op, options) = written;
     match op {
-        Op::Export => export(alloc, false),
-        Op::Narrow => export(alloc, true),
-        Op::Copy => Ok(OpKind::Copy),
-        Op::Filter => filter(alloc, options[0]),
-        Op::Transform => transform(alloc, options),
-        Op::Keep => keep(alloc, options),
-        Op::Drop => dropped(alloc, options[0]),
-        Op::Switch => one_case(alloc, options[0]),
-        Op::Tsort => tsort(alloc, options[0]),
+        Narrow => export(alloc),
+        Filter => filter(alloc, option(options, 0)),
+        Transform => transform(alloc, options),
+        Keep => keep(alloc, options),
+        Leave => dropped(alloc, option(options, 0)),
+        Switch => one_case(alloc, option(options, 0)),
+        Tsort => tsort(alloc, option(options, 0)),
     }
 }
 
-const NONE: [&str; 4] = ["", "", "", ""];
-
-fn cause(
-    alloc: Global,
-    op: Op,
-    options: [&str; 4],
-    people: &Schema,
-) -> Result<Option<ShapeWhy>, Fail> {
-    let kind = kind(alloc, (op, options))?;
-    Ok(own_cause(alloc, &kind, &[people])?)
+fn is_key(found: &KeyList, wanted: &[(u32, bool)]) -> bool {
+    let keys = found.as_slice();
+    keys.len() == wanted.len()
+        && keys
+            .iter()
+            .zip(wanted)
+            .all(|(key, (col, desc))| key.col == *col && key.desc == *desc)
 }
 
-#[test]
-fn causes_at_expressions(rt: HostRuntime) -> Result<(), Fail> {
-    let alloc = rt.alloc();
-    let people = read_schema(alloc, PEOPLE.as_bytes())?;
-    let good = cause(
-        alloc,
-        Op::Filter,
-        ["id > 2 && name == 'x'", "", "", ""],
-        &people,
-    )?;
-    assert_eq!(rt; good, None);
-    let number = cause(alloc, Op::Filter, ["id + 2", "", "", ""], &people)?;
-    assert_eq!(rt; number, Some(ShapeWhy::Expression));
-    let unread = cause(alloc, Op::Filter, ["id >", "", "", ""], &people)?;
-    assert_eq!(rt; unread, Some(ShapeWhy::Expression));
-    let fraction = cause(alloc, Op::Switch, ["paid", "", "", ""], &people)?;
-    assert_eq!(rt; fraction, Some(ShapeWhy::Expression));
-    let whole = cause(alloc, Op::Switch, ["id * 2", "", "", ""], &people)?;
-    assert_eq!(rt; whole, None);
-    Ok(())
+fn are_keys(found: &[KeyList], wanted: &[&[(u32, bool)]]) -> bool {
+    found.len() == wanted.len()
+        && found
+            .iter()
+            .zip(wanted)
+            .all(|(found, wanted)| is_key(found, wanted))
 }
 
-#[test]
-fn causes_at_sets(rt: HostRuntime) -> Result<(), Fail> {
-    let alloc = rt.alloc();
-    let people = read_schema(alloc, PEOPLE.as_bytes())?;
-    let good = cause(alloc, Op::Transform, [ID, "id + 1", "", ""], &people)?;
-    assert_eq!(rt; good, None);
-    let scale = cause(alloc, Op::Transform, [ID, "paid", "", ""], &people)?;
-    assert_eq!(rt; scale, Some(ShapeWhy::Expression));
-    // each set sees the input alone
-    let later = cause(alloc, Op::Transform, [SUM, "id", TWICE, "sum * 2"], &people)?;
-    assert_eq!(rt; later, Some(ShapeWhy::Expression));
-    let twice = cause(alloc, Op::Transform, [SUM, "id", SUM, "id"], &people)?;
-    assert_eq!(rt; twice, Some(ShapeWhy::Double));
-    Ok(())
-}
-
-#[test]
-fn causes_at_columns(rt: HostRuntime) -> Result<(), Fail> {
-    let alloc = rt.alloc();
-    let people = read_schema(alloc, PEOPLE.as_bytes())?;
-    let unknown = cause(alloc, Op::Keep, ["paid,zip", "", "", ""], &people)?;
-    assert_eq!(rt; unknown, Some(ShapeWhy::Field));
-    let left = cause(alloc, Op::Keep, ["paid,id", SUM, "name", ""], &people)?;
-    assert_eq!(rt; left, Some(ShapeWhy::Field));
-    let double = cause(alloc, Op::Keep, ["paid,id", ID, "paid", ""], &people)?;
-    assert_eq!(rt; double, Some(ShapeWhy::Double));
-    let none_left = cause(alloc, Op::Drop, ["name,id,paid", "", "", ""], &people)?;
-    assert_eq!(rt; none_left, Some(ShapeWhy::Wide));
-    let key = cause(alloc, Op::Tsort, ["zip", "", "", ""], &people)?;
-    assert_eq!(rt; key, Some(ShapeWhy::Field));
-    let widths = cause(alloc, Op::Narrow, NONE, &people)?;
-    assert_eq!(rt; widths, Some(ShapeWhy::Schemas));
-    Ok(())
-}
-
-#[test]
-fn cause_without_input(rt: HostRuntime) -> Result<(), Fail> {
-    let alloc = rt.alloc();
-    let import = import(alloc)?;
-    let found = own_cause(alloc, &import, &[])?;
-    assert_eq!(rt; found, None);
-    Ok(())
-}
-
-/// What stands for the names and expressions of an operator, where nothing is wrong with it.
-fn parts(alloc: Global, op: Op, options: [&str; 4], people: &Schema) -> Result<OpParts, Fail> {
-    let kind = kind(alloc, (op, options))?;
-    match own_cause(alloc, &kind, &[people])? {
-        Some(_) => Err("a cause".into()),
-        None => Ok(operator_parts(alloc, &kind, &[people])?),
-    }
-}
-
-#[test]
-fn what_options_stand_for(rt: HostRuntime) -> Result<(), Fail> {
-    let alloc = rt.alloc();
-    let people = read_schema(alloc, PEOPLE.as_bytes())?;
-    let set = parts(alloc, Op::Transform, [NAME, "name", SUM, "id + 1"], &people)?;
-    assert!(rt; set.cols.as_slice() == [1, 3].as_slice());
-    assert_eq!(rt; set.exprs.as_slice().len(), 2);
-    let kept = parts(alloc, Op::Keep, ["paid,id", "", "", ""], &people)?;
-    assert!(rt; kept.cols.as_slice() == [2, 0].as_slice());
-    let dropped = parts(alloc, Op::Drop, ["name", "", "", ""], &people)?;
-    assert!(rt; dropped.cols.as_slice() == [0, 2].as_slice());
-    let sorted = parts(alloc, Op::Tsort, ["paid", "", "", ""], &people)?;
-    assert_eq!(rt; sorted.keys.as_slice().len(), 1);
-    let tested = parts(alloc, Op::Filter, ["id > 2", "", "", ""], &people)?;
-    assert_eq!(rt; tested.exprs.as_slice().len(), 1);
-    Ok(())
-}
-
-/// The schema of an output, where nothing is wrong with the operator.
-fn output(
-    alloc: Global,
-    op: Op,
-    options: [&str; 4],
-    people: &Schema,
-    out: u32,
-) -> Result<Schema, Fail> {
-    let kind = kind(alloc, (op, options))?;
-    match own_cause(alloc, &kind, &[people])? {
-        Some(_) => Err("a cause".into()),
-        None => Ok(output_schema(alloc, &kind, &[people], out)?),
-    }
+fn are_parts(parts: &OpParts, cols: &[u32], exprs: usize, keys: &[&[(u32, bool)]]) -> bool {
+    parts.cols.as_slice() == cols
+        && parts.exprs.as_slice().len() == exprs
+        && are_keys(parts.keys.as_slice(), keys)
 }
 
 /// Whether a schema is printed so.
@@ -334,26 +252,87 @@ fn is_printed(alloc: Global, schema: &Schema, text: &str) -> Result<bool, NoMemo
     Ok(printed.as_slice() == text.as_bytes())
 }
 
-const SET: &str = "record ( id: int32; name: nullable string[4]; paid: decimal[8,2]; sum: int64; )";
+/// Whether this is found at an operator over these inputs.
+pub fn has(alloc: Global, kind: &OpKind, ins: &[&Schema], found: Found) -> Result<bool, NoMemory>
+    requires known { IsKnown kind.now }
+    requires fed { IsFed kind.now (length ins.now) }
+    requires differ { KeysDistinct kind.now }
+    requires stand { OptionsStand kind.now }
+{
+    match (own_cause(alloc, kind, ins)?, found) {
+        (Some(why), Cause(cause)) => Ok(why == cause),
+        (None, Nothing) => Ok(true),
+        (None, Parts(cols, exprs, keys)) => {
+            let parts = operator_parts(alloc, kind, ins)?;
+            Ok(are_parts(&parts, cols, exprs, keys))
+        }
+        (None, Fields(out, fields)) => {
+            let schema = output_schema(alloc, kind, ins, out)?;
+            is_printed(alloc, &schema, fields)
+        }
+        _ => Ok(false),
+    }
+}
+
+/// An operator over people, its options, and what is found.
+type Case = (Op, Options, Found);
+
+static CASES: [Case; 23] = [
+    (Filter, &["id > 2 && name == 'x'"], Nothing),
+    (Filter, &["id + 2"], Cause(Expression)),
+    (Filter, &["id >"], Cause(Expression)),
+    (Switch, &["paid"], Cause(Expression)),
+    (Switch, &["id * 2"], Nothing),
+    (Transform, &[ID, "id + 1"], Nothing),
+    (Transform, &[ID, "paid"], Cause(Expression)),
+    // each set sees the input alone
+    (Transform, &[SUM, "id", TWICE, "sum * 2"], Cause(Expression)),
+    (Transform, &[SUM, "id", SUM, "id"], Cause(Double)),
+    (Keep, &["paid,zip"], Cause(ShapeWhy::Field)),
+    (Keep, &["paid,id", SUM, "name"], Cause(ShapeWhy::Field)),
+    (Keep, &["paid,id", ID, "paid"], Cause(Double)),
+    (Leave, &["name,id,paid"], Cause(Wide)),
+    (Tsort, &["zip"], Cause(ShapeWhy::Field)),
+    (Narrow, &[], Cause(Schemas)),
+    (
+        Transform,
+        &[NAME, "name", SUM, "id + 1"],
+        Parts(&[1, 3], 2, &[]),
+    ),
+    (Keep, &["paid,id"], Parts(&[2, 0], 0, &[])),
+    (Leave, &["name"], Parts(&[0, 2], 0, &[])),
+    (Tsort, &["paid"], Parts(&[], 0, &[&[(2, true)]])),
+    (Filter, &["id > 2"], Parts(&[], 1, &[])),
+    (Transform, &[NAME, "name", SUM, "id + 1"], Fields(0, SET)),
+    (Transform, &[NAME, "name", SUM, "id + 1"], Fields(1, PEOPLE)),
+    (
+        Keep,
+        &["paid,id", SUM, "paid"],
+        Fields(0, "record ( sum: decimal[8,2]; id: int32; )"),
+    ),
+];
+
+fn holds(alloc: Global, people: &Schema, case: &Case) -> Result<bool, Fail> {
+    let kind = kind(alloc, case.0, case.1)?;
+    Ok(has(alloc, &kind, [people].as_slice(), case.2)?)
+}
 
 #[test]
-fn schemas_of_sets(rt: HostRuntime) -> Result<(), Fail> {
+fn operators_over_people(rt: HostRuntime) -> Result<(), Fail> {
     let alloc = rt.alloc();
     let people = read_schema(alloc, PEOPLE.as_bytes())?;
-    let options = [NAME, "name", SUM, "id + 1"];
-    let set = output(alloc, Op::Transform, options, &people, 0)?;
-    assert!(rt; is_printed(alloc, &set, SET)?);
-    let rejected = output(alloc, Op::Transform, options, &people, 1)?;
-    assert!(rt; is_printed(alloc, &rejected, PEOPLE)?);
+    for (i, case) in CASES.iter().enumerate() {
+        assert!(rt; holds(alloc, &people, case)?, "case {i}");
+    }
     Ok(())
 }
 
 #[test]
-fn schemas_of_kept_columns(rt: HostRuntime) -> Result<(), Fail> {
+fn cause_without_input(rt: HostRuntime) -> Result<(), Fail> {
     let alloc = rt.alloc();
-    let people = read_schema(alloc, PEOPLE.as_bytes())?;
-    let kept = output(alloc, Op::Keep, ["paid,id", SUM, "paid", ""], &people, 0)?;
-    assert!(rt; is_printed(alloc, &kept, "record ( sum: decimal[8,2]; id: int32; )")?);
+    let import = import(alloc)?;
+    let found = own_cause(alloc, &import, &[])?;
+    assert!(rt; found.is_none());
     let lines = line_schema(alloc)?;
     assert!(rt; is_printed(alloc, &lines, "record ( line: string[max=65536]; )")?);
     Ok(())
@@ -378,7 +357,7 @@ fn columns_of_names(rt: HostRuntime) -> Result<(), Fail> {
     let Some(keys) = keyed(alloc, &people, "name")? else {
         return Err("no key".into());
     };
-    assert!(rt; matches!(keys.as_slice(), [key] if key.col == 1 && key.desc));
+    assert!(rt; is_key(&keys, &[(1, true)]));
     assert!(rt; keyed(alloc, &people, "zip")?.is_none());
     Ok(())
 }
