@@ -1,12 +1,11 @@
-ghost use Rattle.std.specs.Prelude.{IfOk};
-ghost use Rattle.ds_value.specs.Kinds.{IsKind};
+ghost use Rattle.std.specs.Prelude.{◌≡◌, IfOk};
 
 use super::EvalFault::{NullUsed, Overflow, TooLong, ZeroDivisor};
 use super::*;
 use Answer::{Is, Syntax, Wrong};
 use Plain::{B, D, Fails, N, Null, T};
 use ds_schema::{Field, Row, Schema, read_schema, row_fits};
-use ds_value::{Bytes, Copied, Value};
+use ds_value::{Bytes, Kind, Name, Value};
 use std::alloc::Global;
 use std::test::Fail;
 
@@ -19,6 +18,7 @@ enum Answer {
 }
 
 /// A value or a fault, as a table holds it.
+#[derive(Clone, Copy)]
 enum Plain {
     Null,
     N(i128),
@@ -31,7 +31,7 @@ enum Plain {
 const SCHEMA: &[u8] =
     b"record ( a: int32; n: nullable int64; u: uint64; d: decimal[8,2]; t: string[max=10]; f: string[4]; e: nullable date; )";
 
-static TYPED: [(&str, Answer); 71] = [
+const TYPED: [(&str, Answer); 71] = [
     ("a", Is(Shape::Num, 0)),
     ("d", Is(Shape::Num, 2)),
     ("t", Is(Shape::Text, 0)),
@@ -111,7 +111,7 @@ static TYPED: [(&str, Answer); 71] = [
     ("a /* x", Syntax(2)),
 ];
 
-static VALUED: [(&str, Plain); 60] = [
+const VALUED: [(&str, Plain); 60] = [
     ("a + 1", N(8)),
     ("a - 1 - 2", N(4)),
     ("2 - 3 * 4", N(-10)),
@@ -215,14 +215,14 @@ fn row(alloc: Global) -> Result<Row, Fail> {
     Ok(Row::from_vec(values))
 }
 
-fn is_plain(value: &Result<Arg, EvalFault>, plain: &Plain) -> bool {
+fn is_plain(value: &Result<Arg, EvalFault>, plain: Plain) -> bool {
     match (value, plain) {
         (Ok(Arg::Null), Null) => true,
-        (Ok(Arg::Num(n)), N(m)) => *n == *m,
-        (Ok(Arg::Text(text)), T(bytes)) => text.as_slice() == *bytes,
-        (Ok(Arg::Date(day)), D(other)) => *day == *other,
-        (Ok(Arg::Truth(truth)), B(other)) => *truth == *other,
-        (Err(fault), Fails(other)) => *fault == *other,
+        (Ok(Arg::Num(n)), N(m)) => *n == m,
+        (Ok(Arg::Text(text)), T(bytes)) => text.as_slice() == bytes,
+        (Ok(Arg::Date(day)), D(other)) => *day == other,
+        (Ok(Arg::Truth(truth)), B(other)) => *truth == other,
+        (Err(fault), Fails(other)) => *fault == other,
         _ => false,
     }
 }
@@ -231,11 +231,9 @@ fn is_plain(value: &Result<Arg, EvalFault>, plain: &Plain) -> bool {
 fn typing(rt: HostRuntime) -> Result<(), Fail> {
     let alloc = rt.alloc();
     let schema = read_schema(alloc, SCHEMA)?;
-    for (text, wanted) in &TYPED {
-        assert!(rt;
-            typed_as(alloc, &schema, text.as_bytes())? == *wanted,
-            "{text}"
-        );
+    for (text, wanted) in TYPED {
+        let found = typed_as(alloc, &schema, text.as_bytes())?;
+        assert!(rt; found == wanted, "{text}");
     }
     Ok(())
 }
@@ -266,7 +264,7 @@ fn values(rt: HostRuntime) -> Result<(), Fail> {
     let alloc = rt.alloc();
     let schema = read_schema(alloc, SCHEMA)?;
     let row = row(alloc)?;
-    for (text, wanted) in &VALUED {
+    for (text, wanted) in VALUED {
         let found = value_of(alloc, &schema, &row, text.as_bytes())?;
         assert!(rt; is_plain(&found, wanted), "{text}");
     }
@@ -291,114 +289,49 @@ fn repeated(
     Ok(text)
 }
 
-/// What stands so many times before and behind a text.
-static DEEP: [(&[u8], usize, &[u8], &[u8], Answer); 8] = [
-    (b"(", 64, b"a", b")", Is(Shape::Num, 0)),
-    (b"(", 65, b"a", b")", Syntax(64)),
-    (b"-", 64, b"a", b"", Is(Shape::Num, 0)),
-    (b"-", 65, b"a", b"", Syntax(64)),
-    (b"(", 64, b"f()", b")", Wrong(64)),
-    (b"(", 64, b"f(a)", b")", Syntax(66)),
-    (b"(", 64, b"-a", b")", Syntax(64)),
-    (b"a+", 3000, b"zz", b"+a", Wrong(6000)),
-];
-
 #[test]
 fn depths(rt: HostRuntime) -> Result<(), Fail> {
     let alloc = rt.alloc();
     let schema = read_schema(alloc, SCHEMA)?;
-    for (before, count, between, behind, wanted) in &DEEP {
-        let text = repeated(alloc, before, *count, between, behind)?;
-        assert!(rt; typed_as(alloc, &schema, &text)? == *wanted, "{count}");
+    let rows: [(&[u8], usize, &[u8], &[u8], Answer); 8] = [
+        (b"(", 64, b"a", b")", Is(Shape::Num, 0)),
+        (b"(", 65, b"a", b")", Syntax(64)),
+        (b"-", 64, b"a", b"", Is(Shape::Num, 0)),
+        (b"-", 65, b"a", b"", Syntax(64)),
+        (b"(", 64, b"f()", b")", Wrong(64)),
+        (b"(", 64, b"f(a)", b")", Syntax(66)),
+        (b"(", 64, b"-a", b")", Syntax(64)),
+        (b"a+", 3000, b"zz", b"+a", Wrong(6000)),
+    ];
+    for (before, count, between, behind, wanted) in rows {
+        let text = repeated(alloc, before, count, between, behind)?;
+        let found = typed_as(alloc, &schema, &text)?;
+        assert!(rt; found == wanted, "{count}");
     }
     Ok(())
 }
 
-/// A value of a field, as a table holds it.
-enum Stored {
-    Null,
-    Int(i64),
-    Dec(i128),
-    Text(&'static [u8]),
-    Fails(EvalFault),
-}
-
-/// A schema of one field, what is assigned to it, and its scale, and what that comes to.
-static ASSIGNED: [(&[u8], Plain, u8, Stored); 9] = [
-    (b"record ( x: int8; )", N(-128), 0, Stored::Int(-128)),
-    (b"record ( x: int8; )", N(128), 0, Stored::Fails(Overflow)),
-    (b"record ( x: int8; )", Null, 0, Stored::Fails(NullUsed)),
-    (
-        b"record ( x: nullable uint64; )",
-        N(-1),
-        0,
-        Stored::Fails(Overflow),
-    ),
-    (b"record ( x: nullable uint64; )", Null, 0, Stored::Null),
-    (
-        b"record ( x: decimal[4,2]; )",
-        N(-999),
-        1,
-        Stored::Dec(-9990),
-    ),
-    (
-        b"record ( x: decimal[4,2]; )",
-        N(1000),
-        1,
-        Stored::Fails(Overflow),
-    ),
-    (
-        b"record ( x: string[4]; )",
-        T(b"ab"),
-        0,
-        Stored::Text(b"ab  "),
-    ),
-    (
-        b"record ( x: string[4]; )",
-        T(b"abcde"),
-        0,
-        Stored::Fails(TooLong),
-    ),
-];
-
-fn field(alloc: Global, text: &[u8]) -> Result<Field, Fail>
-    ensures { IfOk result (λ f. IsKind f.kind) }
+fn field(alloc: Global, kind: Kind, nullable: bool) -> Result<Field, Fail>
+    ensures { IfOk result (λ f. f.kind ≡ kind) }
 {
-    let schema = read_schema(alloc, text)?;
-    match schema.as_slice() {
-        [field, ..] => Ok(field.copied()?),
-        [] => Err("no field".into()),
-    }
+    let Some(name) = Name::from_bytes(alloc, b"x")? else {
+        return Err(Fail::from("name"));
+    };
+    Ok(Field {
+        name,
+        nullable,
+        kind,
+    })
 }
 
-/// What an argument comes to in a field, where it can be assigned.
-fn assigned(
-    alloc: Global,
-    plain: &Plain,
-    field: &Field,
-    scale: u8,
-) -> Result<Result<Value, EvalFault>, Fail>
-    requires { IsKind field.now.kind }
-{
-    match plain {
-        Null => Ok(assign(Arg::Null, field, scale)),
-        N(n) if can_assign(Shape::Num, scale, &field.kind) => {
-            Ok(assign(Arg::Num(*n), field, scale))
-        }
-        T(text) if can_assign(Shape::Text, scale, &field.kind) => {
-            Ok(assign(Arg::Text(bytes(alloc, text)?), field, scale))
-        }
-        _ => Err("not assignable".into()),
-    }
-}
-
-fn is_stored(value: &Result<Value, EvalFault>, stored: &Stored) -> bool {
-    match (value, stored) {
-        (Ok(Value::Null), Stored::Null) => true,
-        (Ok(Value::Int(n)), Stored::Int(m)) => *n == *m,
-        (Ok(Value::Dec(n)), Stored::Dec(m)) => *n == *m,
-        (Ok(Value::Text(text)), Stored::Text(bytes)) => text.as_slice() == *bytes,
-        (Err(fault), Stored::Fails(other)) => *fault == *other,
+fn is_value(found: &Result<Value, EvalFault>, wanted: &Result<Value, EvalFault>) -> bool {
+    match (found, wanted) {
+        (Ok(Value::Null), Ok(Value::Null)) => true,
+        (Ok(Value::Int(n)), Ok(Value::Int(m))) => *n == *m,
+        (Ok(Value::UInt(n)), Ok(Value::UInt(m))) => *n == *m,
+        (Ok(Value::Dec(n)), Ok(Value::Dec(m))) => *n == *m,
+        (Ok(Value::Text(text)), Ok(Value::Text(other))) => text.as_slice() == other.as_slice(),
+        (Err(fault), Err(other)) => *fault == *other,
         _ => false,
     }
 }
@@ -406,10 +339,40 @@ fn is_stored(value: &Result<Value, EvalFault>, stored: &Stored) -> bool {
 #[test]
 fn assignments(rt: HostRuntime) -> Result<(), Fail> {
     let alloc = rt.alloc();
-    for (i, (text, plain, scale, stored)) in ASSIGNED.iter().enumerate() {
-        let field = field(alloc, text)?;
-        let found = assigned(alloc, plain, &field, *scale)?;
-        assert!(rt; is_stored(&found, stored), "case {i}");
-    }
+    let small = field(alloc, Kind::Int(8), false)?;
+    let found = assign(Arg::Num(-128), &small, 0);
+    assert!(rt; is_value(&found, &Ok(Value::Int(-128))));
+    let found = assign(Arg::Num(128), &small, 0);
+    assert!(rt; is_value(&found, &Err(Overflow)));
+    let found = assign(Arg::Null, &small, 0);
+    assert!(rt; is_value(&found, &Err(NullUsed)));
+    let large = field(alloc, Kind::UInt(64), true)?;
+    let found = assign(Arg::Num(-1), &large, 0);
+    assert!(rt; is_value(&found, &Err(Overflow)));
+    let found = assign(Arg::Null, &large, 0);
+    assert!(rt; is_value(&found, &Ok(Value::Null)));
+    let money = field(alloc, Kind::Dec { p: 4, s: 2 }, false)?;
+    let found = assign(Arg::Num(-999), &money, 1);
+    assert!(rt; is_value(&found, &Ok(Value::Dec(-9990))));
+    let found = assign(Arg::Num(1000), &money, 1);
+    assert!(rt; is_value(&found, &Err(Overflow)));
+    Ok(())
+}
+
+#[test]
+fn texts(rt: HostRuntime) -> Result<(), Fail> {
+    let alloc = rt.alloc();
+    let fixed = field(
+        alloc,
+        Kind::Text {
+            max: 4,
+            fixed: true,
+        },
+        false,
+    )?;
+    let found = assign(Arg::Text(bytes(alloc, b"ab")?), &fixed, 0);
+    assert!(rt; is_value(&found, &Ok(Value::Text(bytes(alloc, b"ab  ")?))));
+    let found = assign(Arg::Text(bytes(alloc, b"abcde")?), &fixed, 0);
+    assert!(rt; is_value(&found, &Err(TooLong)));
     Ok(())
 }

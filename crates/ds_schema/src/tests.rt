@@ -46,7 +46,7 @@ fn projected_columns(rt: HostRuntime) -> Result<(), Fail> {
     Ok(())
 }
 
-static FAULTS: [(&str, usize, SchemaWhy); 39] = [
+const FAULTS: [(&str, usize, SchemaWhy); 39] = [
     ("", 0, SchemaWhy::Syntax),
     ("record", 6, SchemaWhy::Syntax),
     ("record (", 8, SchemaWhy::Syntax),
@@ -96,7 +96,7 @@ static FAULTS: [(&str, usize, SchemaWhy); 39] = [
     ("record ( a: int32 ; /*/", 20, SchemaWhy::Token),
 ];
 
-static SPELLED: [(&str, &str); 6] = [
+const SPELLED: [(&str, &str); 6] = [
     ("record ( a: int32 )", "record ( a: int32; )"),
     (
         "record(a:int8;b:int16;c:int64;d:uint8;e:uint16;f:uint32;g:uint64;)",
@@ -133,53 +133,40 @@ fn many(alloc: Global, fields: usize, end: &str) -> Result<Vec<u8>, Fail> {
     Ok(text)
 }
 
-fn is_refused(alloc: Global, text: &[u8], at: usize, why: SchemaWhy) -> bool {
-    match read_schema(alloc, text) {
-        Err(
-            SchemaFault::BadSchema {
-                at: place,
-                why: cause,
-            },
-        ) => place == at && cause == why,
-        _ => false,
+fn fault(answer: Result<Schema, SchemaFault>) -> Option<SchemaFault> {
+    match answer {
+        Ok(_) => None,
+        Err(fault) => Some(fault),
     }
-}
-
-fn is_printed(alloc: Global, text: &[u8], wanted: &[u8]) -> Result<bool, Fail> {
-    let schema = read_schema(alloc, text)?.copied()?;
-    Ok(print_schema(alloc, &schema)?.as_slice() == wanted)
 }
 
 #[test]
 fn schemas(rt: HostRuntime) -> Result<(), Fail> {
     let alloc = rt.alloc();
-    for (text, at, why) in &FAULTS {
-        assert!(rt; is_refused(alloc, text.as_bytes(), *at, *why), "{text}");
+    for (text, at, why) in FAULTS {
+        let answer = fault(read_schema(alloc, text.as_bytes()));
+        assert_eq!(rt; answer, Some(SchemaFault::BadSchema { at, why }), "{text}");
     }
-    for (text, printed) in &SPELLED {
-        assert!(rt;
-            is_printed(alloc, text.as_bytes(), printed.as_bytes())?,
-            "{text}"
-        );
+    for (text, printed) in SPELLED {
+        let schema = read_schema(alloc, text.as_bytes())?.copied()?;
+        let again = print_schema(alloc, &schema)?;
+        assert!(rt; again.as_slice() == printed.as_bytes(), "{text}");
     }
-    Ok(())
-}
-
-#[test]
-fn many_fields(rt: HostRuntime) -> Result<(), Fail> {
-    let alloc = rt.alloc();
     let most = many(alloc, 256, " )")?;
-    assert!(rt; read_schema(alloc, &most)?.as_slice().len() == 256);
+    assert_eq!(rt; read_schema(alloc, &most)?.as_slice().len(), 256);
     let at = many(alloc, 256, "")?.len() + 1;
-    let more = many(alloc, 256, " g: int8 )")?;
-    assert!(rt; is_refused(alloc, &more, at, SchemaWhy::Count));
-    let twice = many(alloc, 256, " f0: int8 )")?;
-    assert!(rt; is_refused(alloc, &twice, at, SchemaWhy::Name));
+    for (end, why) in [
+        (" g: int8 )", SchemaWhy::Count),
+        (" f0: int8 )", SchemaWhy::Name),
+    ] {
+        let answer = fault(read_schema(alloc, &many(alloc, 256, end)?));
+        assert_eq!(rt; answer, Some(SchemaFault::BadSchema { at, why }), "{end}");
+    }
     Ok(())
 }
 
 /// Values, and how they are printed where they are key lists, and where they are column lists.
-static LISTS: [(&str, Option<&str>, Option<&str>); 18] = [
+const LISTS: [(&str, Option<&str>, Option<&str>); 18] = [
     ("a", Some("a"), Some("a")),
     (" a , b.c # end", Some("a,b.c"), Some("a,b.c")),
     ("a desc,b", Some("a desc,b"), None),
@@ -222,33 +209,19 @@ fn is_text(printed: &Option<Bytes>, wanted: Option<&str>) -> bool {
     }
 }
 
-/// Whether a value is printed so as a key list, and so as a column list.
-fn are_printed(
-    alloc: Global,
-    value: &[u8],
-    keys: Option<&str>,
-    names: Option<&str>,
-) -> Result<bool, Fail> {
-    let as_keys = printed_keys(alloc, value)?;
-    let as_names = printed_names(alloc, value)?;
-    Ok(is_text(&as_keys, keys) && is_text(&as_names, names))
-}
-
 #[test]
 fn lists(rt: HostRuntime) -> Result<(), Fail> {
     let alloc = rt.alloc();
-    for (value, keys, names) in &LISTS {
+    for (value, keys, names) in LISTS {
         assert!(rt;
-            are_printed(alloc, value.as_bytes(), *keys, *names)?,
+            is_text(&printed_keys(alloc, value.as_bytes())?, keys),
+            "{value}"
+        );
+        assert!(rt;
+            is_text(&printed_names(alloc, value.as_bytes())?, names),
             "{value}"
         );
     }
-    Ok(())
-}
-
-#[test]
-fn long_names(rt: HostRuntime) -> Result<(), Fail> {
-    let alloc = rt.alloc();
     let mut long = Vec::new(alloc);
     for _ in 0..255_u32 {
         long.push(b'n')?;

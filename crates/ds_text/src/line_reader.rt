@@ -281,61 +281,45 @@ mod tests {
         Err(Fail::from("no end"))
     }
 
-    /// A text, and its lines with a `|` behind each.
-    static LINES: [(&[u8], &[u8]); 10] = [
-        (b"", b""),
-        (b"\n", b"|"),
-        (b"\r", b"|"),
-        (b"a", b"a|"),
-        (b"a\n", b"a|"),
-        (b"a\r\nb", b"a|b|"),
-        (b"a\r\r\n", b"a\r|"),
-        (b"a\rb\n", b"a\rb|"),
-        (b"a\n\nb\n", b"a||b|"),
-        (b"\n\r\n", b"||"),
-    ];
-
     #[test]
     fn lines_end_at_their_newlines(rt: HostRuntime) -> Result<(), Fail> {
-        for (text, wanted) in &LINES {
-            assert!(rt;
-                lines_of(rt.alloc(), text)?.as_slice() == *wanted,
-                "{text:?}"
-            );
+        let table: [(&[u8], &[u8]); 10] = [
+            (b"", b""),
+            (b"\n", b"|"),
+            (b"\r", b"|"),
+            (b"a", b"a|"),
+            (b"a\n", b"a|"),
+            (b"a\r\nb", b"a|b|"),
+            (b"a\r\r\n", b"a\r|"),
+            (b"a\rb\n", b"a\rb|"),
+            (b"a\n\nb\n", b"a||b|"),
+            (b"\n\r\n", b"||"),
+        ];
+        for (text, wanted) in table {
+            let all = lines_of(rt.alloc(), text)?;
+            assert_eq!(rt; all.as_slice(), wanted);
         }
         Ok(())
     }
 
-    /// The number of bytes of the next line, and the last one; none where there is no line.
-    fn next_end(
-        lines: &mut Lines<MemSource<NeverFails>>,
-        line: &mut Bytes,
-    ) -> Result<Option<(usize, u8)>, Fail> {
-        match (lines.next_line(line)?, line.as_slice()) {
-            (LineEnd::Line, [.., last]) => Ok(Some((line.as_slice().len(), *last))),
-            _ => Ok(None),
-        }
-    }
-
-    /// How many bytes a line has, and how many of them are read.
-    static LONG: [(usize, usize); 3] = [
-        (2_097_151, 2_097_151),
-        (2_097_153, 2_097_153),
-        (2_097_154, 2_097_153),
-    ];
-
     #[test]
     fn a_long_line_is_cut(rt: HostRuntime) -> Result<(), Fail> {
         let alloc = rt.alloc();
-        for (count, wanted) in &LONG {
-            let mut text = vec![in alloc; b'x'; *count]?;
+        for (count, wanted) in [
+            (2_097_151, 2_097_151),
+            (2_097_153, 2_097_153),
+            (2_097_154, 2_097_153),
+        ] {
+            let mut text = vec![in alloc; b'x'; count]?;
             text.extend_from_slice(b"\r\nnext")?;
             let mut lines = Lines::new(alloc, MemSource::new(text, NeverFails));
             let mut line = Bytes::new(alloc);
-            assert!(rt; next_end(&mut lines, &mut line)? == Some((*wanted, b'x')));
-            assert!(rt; next_end(&mut lines, &mut line)? == Some((4, b't')));
-            assert!(rt; line.as_slice() == b"next".as_slice());
-            assert!(rt; lines.next_line(&mut line)? == LineEnd::End);
+            assert_eq!(rt; lines.next_line(&mut line)?, LineEnd::Line);
+            assert_eq!(rt; line.as_slice().len(), wanted);
+            assert_eq!(rt; line.as_slice().last(), Some(&b'x'));
+            assert_eq!(rt; lines.next_line(&mut line)?, LineEnd::Line);
+            assert_eq!(rt; line.as_slice(), b"next".as_slice());
+            assert_eq!(rt; lines.next_line(&mut line)?, LineEnd::End);
         }
         Ok(())
     }
@@ -346,8 +330,8 @@ mod tests {
         let failures = FailsAt::new(vec![in alloc; 1]?);
         let mut lines = Lines::new(alloc, MemSource::new(b"a\nb".to_vec(alloc)?, failures));
         let mut line = Bytes::new(alloc);
-        assert!(rt; lines.next_line(&mut line)? == LineEnd::Line);
-        assert!(rt; lines.next_line(&mut line) == Err(LineFault::Device));
+        assert_eq!(rt; lines.next_line(&mut line)?, LineEnd::Line);
+        assert_eq!(rt; lines.next_line(&mut line), Err(LineFault::Device));
         assert!(rt; lines.into_inner().has_failed());
         Ok(())
     }

@@ -245,7 +245,7 @@ mod tests {
     }
 
     /// A line, the row that it spells, and how that row is written with another delimiter.
-    static SPELLED: [(&[u8], &[u8], &[u8]); 14] = [
+    const SPELLED: [(&[u8], &[u8], &[u8]); 14] = [
         (b"1,ab,x", b"1 [ab] [x] ", b"1;ab;x"),
         (b"+01,,", b"1 null [] ", b"1;;"),
         (b"-7,\"\",x", b"-7 [] [x] ", b"-7;\"\";x"),
@@ -266,7 +266,7 @@ mod tests {
         (b"0,null,x", b"0 [null] [x] ", b"0;null;x"),
     ];
 
-    static BAD: [&[u8]; 13] = [
+    const BAD: [&[u8]; 13] = [
         b"",
         b"1,ab",
         b"1,ab,x,",
@@ -307,10 +307,10 @@ mod tests {
     fn delimited_lines_are_records(rt: HostRuntime) -> Result<(), Fail> {
         let alloc = rt.alloc();
         let schema = schema(alloc)?;
-        for (line, wanted, again) in &SPELLED {
+        for (line, wanted, again) in SPELLED {
             assert!(rt; is_read(alloc, &schema, line, wanted, again)?, "{line:?}");
         }
-        for line in &BAD {
+        for line in BAD {
             assert!(rt; is_bad(alloc, &schema, line), "{line:?}");
         }
         Ok(())
@@ -330,7 +330,7 @@ mod tests {
 
     /// A line of columns of 3, 4 and 2 bytes, the row that it spells, and how that is written;
     /// or nothing where it is bad.
-    static COLUMNS: [(&[u8], &[u8], &[u8]); 12] = [
+    const COLUMNS: [(&[u8], &[u8], &[u8]); 12] = [
         (b" 12ab  x ", b"12 [ab] [x] ", b" 12ab  x "),
         (b"1", b"1 null [] ", b"  1      "),
         (b"+7 ", b"7 null [] ", b"  7      "),
@@ -345,7 +345,6 @@ mod tests {
         (b"1 2ab  x ", b"", b""),
     ];
 
-    /// The row that a line of columns spells, and how that is written; nothing where it is bad.
     fn in_columns(alloc: Global, schema: &Schema, line: &[u8]) -> Result<(Bytes, Bytes), Fail> {
         let form = Form::Fixed(Items::from_vec(vec![in alloc; 3, 4, 2]?));
         let mut text = Bytes::new(alloc);
@@ -361,19 +360,18 @@ mod tests {
         Ok((described(alloc, &row)?, text))
     }
 
-    /// Whether a text is this line with something behind it, or both are empty.
-    fn is_line(text: &[u8], line: &[u8]) -> bool {
-        text.starts_with(line) && (text.len() == line.len()) == line.is_empty()
-    }
-
     #[test]
     fn lines_of_columns_are_records(rt: HostRuntime) -> Result<(), Fail> {
         let alloc = rt.alloc();
         let schema = schema(alloc)?;
-        for (line, wanted, again) in &COLUMNS {
+        for (line, wanted, again) in COLUMNS {
             let (row, text) = in_columns(alloc, &schema, line)?;
-            assert!(rt; row.as_slice() == *wanted, "{line:?}");
-            assert!(rt; is_line(text.as_slice(), again), "{line:?}");
+            assert_eq!(rt; row.as_slice(), wanted, "{line:?}");
+            let (written, end) = text
+                .as_slice()
+                .split_at(again.len().min(text.as_slice().len()));
+            assert_eq!(rt; written, again, "{line:?}");
+            assert_eq!(rt; end.is_empty(), again.is_empty(), "{line:?}");
         }
         Ok(())
     }
@@ -396,19 +394,17 @@ mod tests {
         )
     }
 
-    static UNWRITABLE: [&[u8]; 5] = [
-        b"1,a\nb,x",
-        b"1000,ab,x",
-        b"-100,ab,x",
-        b"1,ab,xyz",
-        b"1,ab,\"x\n\"",
-    ];
-
     #[test]
     fn rows_may_be_unwritable(rt: HostRuntime) -> Result<(), Fail> {
         let alloc = rt.alloc();
         let schema = schema(alloc)?;
-        for line in &UNWRITABLE {
+        for line in [
+            b"1,a\nb,x".as_slice(),
+            b"1000,ab,x",
+            b"-100,ab,x",
+            b"1,ab,xyz",
+            b"1,ab,\"x\n\"",
+        ] {
             assert!(rt; is_refused(alloc, &schema, line)?, "{line:?}");
         }
         Ok(())

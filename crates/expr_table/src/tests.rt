@@ -10,7 +10,7 @@ use std::alloc::Global;
 use std::test::Fail;
 
 /// Scales, the literal that stands second, and the scale of the result.
-static SCALES: [(FnName, &[u8], Option<u128>, Option<u8>); 18] = [
+const SCALES: [(FnName, &'static [u8], Option<u128>, Option<u8>); 18] = [
     (FnName::Equal, &[38, 0], None, Some(0)),
     (FnName::Plus, &[1, 38], None, Some(38)),
     (FnName::Minus, &[2, 1], None, Some(2)),
@@ -116,10 +116,8 @@ fn rows_at_their_edges(rt: HostRuntime) -> Result<(), Fail> {
     let alloc = rt.alloc();
     let table = table();
     for (i, (name, shapes, cases)) in ROWS.iter().enumerate() {
-        assert!(rt;
-            find_row(&table, *name, shapes) == Some(i as u32),
-            "row {i}"
-        );
+        let row = find_row(&table, *name, shapes);
+        assert!(rt; row == Some(i as u32), "row {i}");
         assert!(rt; gives(alloc, i as u32, cases)?, "row {i}");
     }
     Ok(())

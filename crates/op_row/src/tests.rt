@@ -14,15 +14,13 @@ use op_base::{Emit, run_list};
 use std::alloc::Global;
 use std::test::Fail;
 
-static NUMBERS: [[u64; 3]; 2] = [[0, 1, 2], [10, 11, 12]];
-
 /// Two rows of three numbers.
 fn rows(alloc: Global) -> Result<Vec<Row>, Fail> {
     let mut rows = Vec::new(alloc);
-    for numbers in &NUMBERS {
+    for numbers in [[0, 1, 2], [10, 11, 12]] {
         let mut values = Vec::new(alloc);
         for number in numbers {
-            values.push(Value::UInt(*number))?;
+            values.push(Value::UInt(number))?;
         }
         rows.push(Row::from_vec(values))?;
     }
@@ -89,20 +87,18 @@ fn kept(alloc: Global, cols: Vec<u32>) -> Result<Vec<u64>, Fail> {
     sent(alloc, &emit, 0)
 }
 
-/// Columns, and the numbers that are kept.
-static KEPT: [(&[u32], &[u64]); 4] = [
-    (&[0, 1, 2], &[0, 1, 2, 10, 11, 12]),
-    (&[2, 0], &[2, 0, 12, 10]),
-    (&[1, 1], &[1, 1, 11, 11]),
-    (&[], &[]),
-];
-
 #[test]
 fn columns_are_kept(rt: HostRuntime) -> Result<(), Fail> {
     let alloc = rt.alloc();
-    for (cols, expected) in &KEPT {
+    let cases: [(&[u32], &[u64]); 4] = [
+        (&[0, 1, 2], &[0, 1, 2, 10, 11, 12]),
+        (&[2, 0], &[2, 0, 12, 10]),
+        (&[1, 1], &[1, 1, 11, 11]),
+        (&[], &[]),
+    ];
+    for (cols, expected) in cases {
         let found = kept(alloc, cols.to_vec(alloc)?)?;
-        assert!(rt; found.as_slice() == *expected);
+        assert!(rt; found.as_slice() == expected);
     }
     Ok(())
 }

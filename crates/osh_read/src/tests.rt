@@ -3,7 +3,7 @@ use flow_graph::OpKind;
 use std::alloc::Global;
 use std::test::Fail;
 
-static FAULTS: [(&str, usize, OshWhy); 147] = [
+const FAULTS: [(&str, usize, OshWhy); 147] = [
     ("", 0, OshWhy::Syntax),
     ("# only a comment", 16, OshWhy::Syntax),
     ("import -file \"in", 13, OshWhy::Token),
@@ -198,7 +198,7 @@ static FAULTS: [(&str, usize, OshWhy); 147] = [
 ];
 
 /// Texts with how many operators and links they have.
-static FLOWS: [(&str, usize, usize); 15] = [
+const FLOWS: [(&str, usize, usize); 15] = [
     ("copy", 1, 0),
     ("copy;", 1, 0),
     ("nopart; nosort; nopart; copy", 1, 0),
@@ -253,7 +253,7 @@ static FLOWS: [(&str, usize, usize); 15] = [
 ];
 
 /// Texts of one operator, and what is kept of its expression, of a transform the last one's.
-static KEPT: [(&str, &str); 8] = [
+const KEPT: [(&str, &str); 8] = [
     ("filter -where a", "a"),
     ("filter -where ' a  ==5 '", "a  ==5"),
     ("filter -where \"/* a */ a + # b\"", ""),
@@ -343,44 +343,28 @@ fn repeated(alloc: Global, count: usize, one: &[u8], last: &[u8]) -> Result<Vec<
 #[test]
 fn flows_are_read(rt: HostRuntime) -> Result<(), Fail> {
     let alloc = rt.alloc();
-    for (text, at, why) in &FAULTS {
+    for (text, at, why) in FAULTS.iter() {
         assert!(rt; is_refused(alloc, text.as_bytes(), *at, *why), "{text}");
     }
-    for (text, ops, links) in &FLOWS {
+    for (text, ops, links) in FLOWS.iter() {
         assert!(rt; has_parts(alloc, text.as_bytes(), *ops, *links), "{text}");
     }
-    for (text, kept) in &KEPT {
+    for (text, kept) in KEPT.iter() {
         assert!(rt; keeps(alloc, text.as_bytes(), kept.as_bytes()), "{text}");
     }
     assert!(rt; has_parts(alloc, &nested(alloc, 64)?, 1, 0));
     assert!(rt; is_refused(alloc, &nested(alloc, 65)?, 14, OshWhy::BadValue));
-    Ok(())
-}
-
-/// So many times the one, and then the other, with how many operators and links they have.
-static LONGEST: [(usize, &[u8], &[u8], usize, usize); 2] = [
-    (199, b"copy|", b"copy", 200, 199),
-    (1_048_572, b" ", b"copy", 1, 0),
-];
-
-/// So many times the one, and then the other, with where and why they are refused.
-static LONGER: [(usize, &[u8], &[u8], usize, OshWhy); 4] = [
-    (200, b"copy|", b"copy -x", 1000, OshWhy::TooMany),
-    (200, b"copy|", b"cpoy", 1000, OshWhy::UnknownOperator),
-    (1_048_573, b" ", b"copy", 1_048_573, OshWhy::UnknownOperator),
-    (1_048_572, b" ", b"copy ", 1_048_576, OshWhy::TooLong),
-];
-
-#[test]
-fn long_flows_are_read(rt: HostRuntime) -> Result<(), Fail> {
-    let alloc = rt.alloc();
-    for (count, one, last, ops, links) in &LONGEST {
-        let text = repeated(alloc, *count, one, last)?;
-        assert!(rt; has_parts(alloc, &text, *ops, *links), "{count}");
-    }
-    for (count, one, last, at, why) in &LONGER {
-        let text = repeated(alloc, *count, one, last)?;
-        assert!(rt; is_refused(alloc, &text, *at, *why), "{count}");
-    }
+    let most = repeated(alloc, 199, b"copy|", b"copy")?;
+    assert!(rt; has_parts(alloc, &most, 200, 199));
+    let many = repeated(alloc, 200, b"copy|", b"copy -x")?;
+    assert!(rt; is_refused(alloc, &many, 1000, OshWhy::TooMany));
+    let unknown = repeated(alloc, 200, b"copy|", b"cpoy")?;
+    assert!(rt; is_refused(alloc, &unknown, 1000, OshWhy::UnknownOperator));
+    let longest = repeated(alloc, 1_048_572, b" ", b"copy")?;
+    assert!(rt; has_parts(alloc, &longest, 1, 0));
+    let long = repeated(alloc, 1_048_573, b" ", b"copy")?;
+    assert!(rt; is_refused(alloc, &long, 1_048_573, OshWhy::UnknownOperator));
+    let longer = repeated(alloc, 1_048_572, b" ", b"copy ")?;
+    assert!(rt; is_refused(alloc, &longer, 1_048_576, OshWhy::TooLong));
     Ok(())
 }

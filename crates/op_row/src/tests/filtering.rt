@@ -43,7 +43,7 @@ const ADDED: Faulty = Faulty {
     bytes: FIRST_BYTES,
 };
 
-static CASES: [Case; 10] = [
+const CASES: [Case; 10] = [
     ("n > 10", false, &[(0, &SECOND)], None),
     (
         "n > 10",
@@ -79,12 +79,10 @@ static CASES: [Case; 10] = [
 fn rows_are_filtered(rt: HostRuntime) -> Result<(), Fail> {
     let alloc = rt.alloc();
     let schema = read_schema(alloc, SCHEMA)?;
-    for (text, reject, sent, faults) in &CASES {
-        let emit = filtered(alloc, &schema, text, *reject)?;
-        assert!(rt;
-            are_sent(&emit, sent) && has_faults(&emit, faults),
-            "{text}"
-        );
+    for (text, reject, sent, faults) in CASES {
+        let emit = filtered(alloc, &schema, text, reject)?;
+        assert!(rt; are_sent(&emit, sent), "sent by {text}");
+        assert!(rt; has_faults(&emit, faults), "faults of {text}");
     }
     Ok(())
 }

@@ -41,8 +41,6 @@ pub const THIRD: [Cell; 4] = [
     Cell::Text(b"abcdefghijklmnopqrstuvwxyz0123456789ABCD"),
 ];
 
-static ROWS: [&[Cell]; 3] = [&FIRST, &SECOND, &THIRD];
-
 /// The canonical bytes of the first row.
 pub const FIRST_BYTES: &[u8] =
     b"\x01\0\0\0\0\0\0\0\x01\0\x03\0\0\0\0\0\0\0\0\0\0\0\0\0\0\0\x96\x04\0\0\0\x02ab";
@@ -75,8 +73,8 @@ fn row(alloc: Global, cells: &[Cell]) -> Result<Row, Fail> {
 /// The three rows of the schema.
 pub fn rows(alloc: Global) -> Result<Vec<Row>, Fail> {
     let mut rows = Vec::new(alloc);
-    for cells in &ROWS {
-        rows.push(row(alloc, cells)?)?;
+    for cells in [FIRST, SECOND, THIRD] {
+        rows.push(row(alloc, &cells)?)?;
     }
     Ok(rows)
 }
@@ -132,7 +130,7 @@ pub fn are_sent(emit: &Emit, expected: &[(u32, &[Cell])]) -> bool {
 }
 
 /// Whether there were these faults, or none. Each has the place 0.
-pub fn has_faults(emit: &Emit, expected: &Option<Faulty>) -> bool {
+pub fn has_faults(emit: &Emit, expected: Option<Faulty>) -> bool {
     match (&emit.least, expected) {
         (None, None) => emit.faults == 0,
         (Some(least), Some(faulty)) => {

@@ -55,7 +55,7 @@ const DIVIDED: Faulty = Faulty {
     bytes: THIRD_BYTES,
 };
 
-static CASES: [Case; 10] = [
+const CASES: [Case; 10] = [
     ("n", false, &[(0, &SECOND), (2, &THIRD)], None),
     ("n", true, &[(3, &FIRST), (0, &SECOND), (2, &THIRD)], None),
     ("a", false, &[(1, &THIRD)], None),
@@ -82,12 +82,10 @@ static CASES: [Case; 10] = [
 fn rows_are_switched(rt: HostRuntime) -> Result<(), Fail> {
     let alloc = rt.alloc();
     let schema = read_schema(alloc, SCHEMA)?;
-    for (text, reject, sent, faults) in &CASES {
-        let emit = switched(alloc, &schema, text, *reject)?;
-        assert!(rt;
-            are_sent(&emit, sent) && has_faults(&emit, faults),
-            "{text}"
-        );
+    for (text, reject, sent, faults) in CASES {
+        let emit = switched(alloc, &schema, text, reject)?;
+        assert!(rt; are_sent(&emit, sent), "sent by {text}");
+        assert!(rt; has_faults(&emit, faults), "faults of {text}");
     }
     Ok(())
 }

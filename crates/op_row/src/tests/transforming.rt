@@ -102,7 +102,7 @@ const SHORTENED: &[Plan] = &[(3, b"record ( t: string[max=2]; )", "t")];
 
 const FILLED: &[Plan] = &[(4, b"record ( m: int32; )", "n")];
 
-static CASES: [Case; 11] = [
+const CASES: [Case; 11] = [
     // the second sees the column as it came
     (
         &[
@@ -249,12 +249,10 @@ static CASES: [Case; 11] = [
 fn columns_are_set(rt: HostRuntime) -> Result<(), Fail> {
     let alloc = rt.alloc();
     let schema = read_schema(alloc, SCHEMA)?;
-    for (number, (plans, reject, sent, faults)) in CASES.iter().enumerate() {
-        let emit = transformed(alloc, &schema, plans, *reject)?;
-        assert!(rt;
-            are_sent(&emit, sent) && has_faults(&emit, faults),
-            "case {number}"
-        );
+    for (number, (plans, reject, sent, faults)) in CASES.into_iter().enumerate() {
+        let emit = transformed(alloc, &schema, plans, reject)?;
+        assert!(rt; are_sent(&emit, sent), "sent in case {number}");
+        assert!(rt; has_faults(&emit, faults), "faults of case {number}");
     }
     Ok(())
 }
