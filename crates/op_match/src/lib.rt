@@ -1,0 +1,13 @@
+//! Merges of updates into a master, and changes between two inputs, by keys.
+#![tactic(auto)]
+
+mod captures;
+mod change;
+mod columns;
+pub mod laws;
+mod maker;
+mod side;
+mod sides;
+
+pub use captures::Capture;
+pub use maker::capture;
