@@ -6,3 +6,6 @@ pub mod Rounds
 pub mod Pairing
 pub mod Means
 pub mod Told
+pub mod Merging
+pub mod MergeMeans
+pub mod MergeTold

@@ -45,6 +45,12 @@ sent_next port f before now later xs i r s l is h e k =
     subst P (ap (λ x. map f (take i xs) ++ x ∷ []) (e ∙ ap f is) ∙ sym (map-append f (take i xs) (get_or xs i r ∷ [])) ∙ ap (map f) (sym (take_more xs i r l)) ∙ ap (λ n. map f (take n xs)) (sym (one_more i)))
     (sent_join port before now later (map f (take i xs)) (s ∷ []) h k)
 
+-- one more row that is sent as it is
+pub sent_same : (port : ℕ) (before now later : Emit) (xs : List Row) (i : ℕ) (r s : Row) → i < length xs → r ≡ get_or xs i r → Adds before now (map (sends port) (take i xs)) → s ≡ r → Adds now later (sends port s ∷ []) → Adds before later (map (sends port) (take (i + 1) xs))
+sent_same port before now later xs i r s l is h e k =
+    let P : List Row → Type 0 = λ rows. Adds before later (map (sends port) rows) in
+    subst P (ap (λ x. take i xs ++ x ∷ []) (e ∙ is) ∙ sym (take_more xs i r l) ∙ ap (λ n. take n xs) (sym (one_more i))) (sent_join port before now later (take i xs) (s ∷ []) h k)
+
 take_whole : {X : Type 0} (xs : List X) (n : ℕ) → n ≡ length xs → take n xs ≡ xs
 take_whole [] zero e = refl
 take_whole [] (suc n) e = refl

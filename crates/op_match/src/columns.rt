@@ -1,10 +1,12 @@
-ghost use Rattle.std.specs.Prelude.{◌≡◌, length, IfOk};
+ghost use Rattle.std.specs.Prelude.{◌≡◌, ◌++◌, length, IfOk, OnOk};
 ghost use Rattle.ds_value.specs.Values.{value_cmp};
 ghost use Rattle.ds_schema.specs.Rows.{at, cols, has, turned_cmp, val, vals_cmp, ways};
+ghost use Rattle.op_base.specs.Columns.{all_columns, is_in};
 ghost use Rattle.op_base.specs.Keyed.{same_vals};
+ghost use Rattle.op_match.specs.Merges.{others};
 
 use ds_schema::{Key, KeyList, Row};
-use ds_value::{Copied, NoMemory, Value, cmp};
+use ds_value::{Copied, Items, NoMemory, Value, cmp};
 use std::alloc::Global;
 use std::cmp::Ordering;
 
@@ -102,4 +104,48 @@ pub fn same_values(a: &Row, b: &Row, cols: &[u32]) -> bool
         }
     }
     true
+}
+
+fn is_key(keys: &KeyList, col: u32) -> bool
+    ensures { result ≡ is_in col (cols keys.now) }
+{
+    for key in keys.as_slice() {
+        if col == key.col {
+            return true;
+        }
+    }
+    false
+}
+
+/// The columns below a width that no key names.
+pub fn others(alloc: Global, keys: &KeyList, width: u32) -> Result<Items<u32>, NoMemory>
+    ensures { IfOk result (λ cols. cols ≡ others keys.now width) }
+{
+    let mut found = Vec::new(alloc);
+    for col in 0..width {
+        if !is_key(keys, col) {
+            found.push(col)?;
+        }
+    }
+    Ok(Items::from_vec(found))
+}
+
+/// Appends a row's values in some columns.
+pub fn push_columns(values: &mut Vec<Value>, row: &Row, cols: &[u32]) -> Result<(), NoMemory>
+    ensures { OnOk result (values.new.items ≡ values.old.items ++ val cols.now row.now) }
+{
+    for col in cols {
+        values.push(value_at(row, *col as usize)?)?;
+    }
+    Ok(())
+}
+
+/// Appends a row's values in the first columns.
+pub fn push_first_columns(values: &mut Vec<Value>, row: &Row, width: u32) -> Result<(), NoMemory>
+    ensures { OnOk result (values.new.items ≡ values.old.items ++ val (all_columns width) row.now) }
+{
+    for col in 0..width {
+        values.push(value_at(row, col as usize)?)?;
+    }
+    Ok(())
 }

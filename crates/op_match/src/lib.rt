@@ -5,9 +5,12 @@ mod captures;
 mod change;
 mod columns;
 pub mod laws;
+mod layout;
 mod maker;
+mod merge;
 mod side;
 mod sides;
 
 pub use captures::Capture;
-pub use maker::capture;
+pub use maker::{capture, merger};
+pub use merge::Merger;
