@@ -1,0 +1,10 @@
+pub mod Waiting
+pub mod Rounds
+pub mod Captures
+pub mod Changed
+pub mod Capturing
+pub mod Suiting
+pub mod Merges
+pub mod Merged
+pub mod AreStreams
+pub mod Laws
