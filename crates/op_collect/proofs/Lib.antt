@@ -1,0 +1,5 @@
+pub mod Wanted
+pub mod Standing
+pub mod Lanes
+pub mod Turns
+pub mod Means

@@ -1,0 +1,4 @@
+pub mod Standing
+pub mod Merging
+pub mod AreStreams
+pub mod Laws
