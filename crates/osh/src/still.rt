@@ -22,13 +22,11 @@ pub fn osh_still<F: Files, O: Sink, E: Sink>(
     out: &mut O,
     err: &mut E,
 ) -> Status
-    ensures calls {
-        Calls (map string_bytes words.now)
-            (record { tells = F.tells; old = F.holds files.old; new = F.holds files.new; before = F.faults files.old; now = F.faults files.new })
-            (record { tells = O.tells; old = O.held out.old; new = O.held out.new; before = O.faults out.old; now = O.faults out.new })
-            (record { tells = E.tells; old = E.held err.old; new = E.held err.new; before = E.faults err.old; now = E.faults err.new })
-            result.0
-    }
+    ensures calls { Calls (map string_bytes words.now)
+        (record { tells = F.tells; old = F.holds files.old; new = F.holds files.new; before = F.faults files.old; now = F.faults files.new })
+        (record { tells = O.tells; old = O.held out.old; new = O.held out.new; before = O.faults out.old; now = O.faults out.new })
+        (record { tells = E.tells; old = E.held err.old; new = E.held err.new; before = E.faults err.old; now = E.faults err.new })
+        result.0 }
     ensures exact { IsTrue F.tells → IsExact (map string_bytes words.now) (F.holds files.old) result.0 }
     ensures complete { IsTrue F.tells → IsComplete (map string_bytes words.now) (F.holds files.old) (Rose (F.faults files.old) (F.faults files.new) ⊎ Rose (O.faults out.old) (O.faults out.new)) result.0 }
 
