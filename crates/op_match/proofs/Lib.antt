@@ -9,3 +9,4 @@ pub mod Told
 pub mod Merging
 pub mod MergeMeans
 pub mod MergeTold
+pub mod Suiting

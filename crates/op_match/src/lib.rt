@@ -14,3 +14,6 @@ mod sides;
 pub use captures::Capture;
 pub use maker::{capture, merger};
 pub use merge::Merger;
+
+#[cfg(test)]
+mod tests;
