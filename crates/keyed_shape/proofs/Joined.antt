@@ -34,7 +34,7 @@ columns_each : (test : Bool) (fields : List Field) (columns : List ℕ) → AllB
 columns_each test fields [] a w = tt
 columns_each test fields (c ∷ columns) a w = (at_each fields c no_field a w.0, columns_each test fields columns a w.1)
 
-others_each : (test : Bool) (key : List (List ℕ × Bool)) (fields : List Field) → AllByRecursion IsField fields → AllByRecursion IsField (map (nullable_if test) (other_fields key fields))
+pub others_each : (test : Bool) (key : List (List ℕ × Bool)) (fields : List Field) → AllByRecursion IsField fields → AllByRecursion IsField (map (nullable_if test) (other_fields key fields))
 others_each test key fields a =
     columns_each test fields (other_columns key fields) a (all_passing (λ c. c < length fields) (λ c. not (is_in c (cols (key_columns fields key)))) (all_columns (length fields)) (range_within 0 (length fields) (length fields) (omega arith)))
 

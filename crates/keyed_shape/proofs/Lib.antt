@@ -1,3 +1,4 @@
 pub mod Both
 pub mod Joined
 pub mod Others
+pub mod Matched

@@ -56,6 +56,23 @@ rest_next test fields columns i f b before old new h at e inv add =
     add ∙ (ap (λ fs. fs ++ cond b [] (nullable_if test f ∷ [])) inv ∙ (ap (λ (g : Field). (before ++ rest_to test fields columns i) ++ cond b [] (nullable_if test g ∷ [])) here
     ∙ (append_assoc before (rest_to test fields columns i) (cond b [] (nullable_if test (field_at fields i) ∷ [])) ∙ ap (λ fs. before ++ fs) (sym (rest_more test fields columns i b (sym (e ∙ in_list i columns)))))))
 
+abbrev others_to : List ℕ → ℕ → List ℕ
+others_to columns n = filter (λ c. not (is_in c columns)) (range_with_len 0 n)
+
+others_more : (columns : List ℕ) (i : ℕ) (b : Bool) → is_in i columns ≡ b → others_to columns (i + 1) ≡ others_to columns i ++ cond b [] (i ∷ [])
+others_more columns i b e =
+    let p = λ (c : ℕ). not (is_in c columns) in
+    let up : i + 1 ≡ suc i = omega arith in
+    ap (others_to columns) up ∙ (ap (filter p) (range_more 0 i i (omega arith)) ∙ (filter-append p (range_with_len 0 i) (i ∷ [])
+    ∙ (ap (λ x. others_to columns i ++ cond (not x) (i ∷ []) []) e ∙ ap (λ cs. others_to columns i ++ cs) (last b))))
+  where
+    last : (x : Bool) → cond (not x) (i ∷ []) [] ≡ cond x [] (i ∷ [])
+    last true = refl
+    last false = refl
+
+pub other_next : (columns : List ℕ) (i : ℕ) (b : Bool) (old new : List ℕ) → b ≡ list_any (λ y. y == i) columns → old ≡ others_to columns i → new ≡ old ++ cond b [] (i ∷ []) → new ≡ others_to columns (i + 1)
+other_next columns i b old new e inv add = add ∙ (ap (λ cs. cs ++ cond b [] (i ∷ [])) inv ∙ sym (others_more columns i b (sym (e ∙ in_list i columns))))
+
 -- ---- the columns that results are made of
 
 sources_append : (xs ys : List AggSpec) → sources (xs ++ ys) ≡ sources xs ++ sources ys

@@ -40,7 +40,7 @@ pub const FULL_OUTER: Lost = Lost {
     right: true,
 };
 
-fn same_kind(a: Kind, b: Kind) -> bool
+pub fn same_kind(a: Kind, b: Kind) -> bool
     ensures { result ≡ same_kind a b }
 {
     match (a, b) {
@@ -65,7 +65,7 @@ fn has_one_kind(left: &[Field], right: &[Field], name: &Name) -> bool
     same_kind(kind_of(left, name), kind_of(right, name))
 }
 
-fn kinds_agree(key: &[(Name, bool)], left: &[Field], right: &[Field]) -> bool
+pub fn kinds_agree(key: &[(Name, bool)], left: &[Field], right: &[Field]) -> bool
     ensures { result ≡ kinds_agree key.now left.now right.now }
 {
     key.iter().all(|part| has_one_kind(left, right, &part.0))

@@ -9,7 +9,7 @@ ghost use Rattle.shape_base.specs.Naming.{has_column, key_columns};
 ghost use Rattle.keyed_shape.specs.Keyed.{field_named, nullable_if, is_key, other_columns, other_fields};
 
 use ds_schema::Field;
-use ds_value::{Copied, Kind, Name, NoMemory};
+use ds_value::{Copied, Items, Kind, Name, NoMemory};
 use shape_base::naming::{column, place_of};
 use std::alloc::Global;
 
@@ -68,6 +68,25 @@ fn columns_of(alloc: Global, key: &[(Name, bool)], fields: &[Field]) -> Result<V
     let mut found = Vec::new(alloc);
     for (name, _) in key {
         found.push(column(fields, name))?;
+    }
+    Ok(found)
+}
+
+/// The columns that no key names.
+pub fn other_columns(
+    alloc: Global,
+    key: &[(Name, bool)],
+    fields: &[Field],
+) -> Result<Items<u32>, NoMemory>
+    requires { length fields.now < 2 ^ 32 }
+    ensures { IfOk result (λ found. found ≡ other_columns key.now fields.now) }
+{
+    let columns = columns_of(alloc, key, fields)?;
+    let mut found = Items::new(alloc);
+    for i in 0..fields.len() as u32 {
+        if !columns.contains(&i) {
+            found.push(i)?;
+        }
     }
     Ok(found)
 }
