@@ -1,5 +1,5 @@
 -- How the lanes of a merge follow its stream.
-use Rattle.std.proofs.Common.{◌≡◌, ◌≢◌, ℕ, zero, suc, ◌+◌, ◌<◌, ◌≤◌, ◌==◌, Bool, true, false, not, ◌&&◌, cond, ◌⊎◌, inl, inr, refl, sym, ap, ap₂, ◌∙◌, subst, List, [], ◌∷◌, ◌++◌, length, map, arith, get_or, set, Option, Some, None}
+use Rattle.std.proofs.Common.{◌≡◌, ℕ, zero, suc, ◌+◌, ◌<◌, ◌≤◌, Bool, true, false, not, ◌&&◌, cond, ◌⊎◌, inl, inr, refl, sym, ap, ap₂, ◌∙◌, subst, List, [], ◌∷◌, ◌++◌, length, map, arith, get_or, set, Option, Some, None}
 use Rattle.std.specs.declared.cmp.Ordering.{Ordering}
 use Rattle.std.specs.Ordering.{is_lt}
 use Rattle.std.specs.Prelude.{nat_lt, option_map, is_some, IfSome}
@@ -8,16 +8,16 @@ use Rattle.std.proofs.lemmas.Bool.Decides.{eqb_tells}
 use Rattle.std.proofs.lemmas.List.{get_or-set_same, get_or-set_other, length-set}
 use Rattle.streams.specs.Lists.{is_empty}
 use Rattle.streams.specs.Streams.{Item, row, end, Feed, Out, sends, ended, all_below}
-use Rattle.streams.specs.Operators.{picks, by_number, Machine, after, Waiting, set_at, waiting_with, merge_asks, Front, better, best_of, merge_ready, without_front, front_outs, merge_machine, merge_stream}
+use Rattle.streams.specs.Operators.{picks, by_number, Machine, Waiting, waiting_with, merge_asks, Front, better, best_of, merge_ready, without_front, front_outs, merge_machine, merge_stream}
 use Rattle.streams.proofs.Picks.{not_true, not_false, picks_open}
-use Rattle.streams.proofs.StreamLaws.{all_at, all_from, not_all, true_false}
-use Rattle.streams.proofs.Machines.{after-append, set_at-case, best_is, front_over, merge_over}
+use Rattle.streams.proofs.StreamLaws.{all_from, not_all, true_false}
+use Rattle.streams.proofs.Machines.{after-append, set_at-case, best_is, merge_over}
 use Rattle.ds_schema.specs.declared.key.Key.{Key}
 use Rattle.ds_schema.specs.Rows.{row_cmp}
 use Rattle.op_base.specs.declared.fault.Fault.{Fault}
 use Rattle.op_base.specs.declared.operator.Want.TheVariants.{Port, Nothing}
 use Rattle.op_base.specs.Columns.{Row}
-use Rattle.op_base.specs.Standing.{RowStream, Answers}
+use Rattle.op_base.specs.Standing.{Answers}
 use Rattle.op_collect.specs.declared.merging.Lane.{Lane}
 use Rattle.op_collect.specs.declared.merging.Lane.TheVariants as lane
 use Rattle.op_collect.specs.AreStreams.{sort_merge_is}

@@ -3,3 +3,4 @@ pub mod Standing
 pub mod Lanes
 pub mod Turns
 pub mod Means
+pub mod OneMerge

@@ -1,5 +1,5 @@
 -- What the collectors and funnels give of whole lists.
-use Rattle.std.proofs.Common.{◌≡◌, ℕ, zero, suc, ◌<◌, Bool, true, false, cond, refl, sym, ap, ap₂, ◌∙◌, List, [], ◌∷◌, ◌++◌, map, Option, Some, None}
+use Rattle.std.proofs.Common.{◌≡◌, ℕ, zero, suc, Bool, true, false, cond, refl, sym, ap, ap₂, ◌∙◌, List, [], ◌∷◌, ◌++◌, map, Option, Some, None}
 use Rattle.std.proofs.lemmas.Cmp.{tied_itself}
 use Rattle.std.specs.Cmp.{IsTotalOrder}
 use Rattle.std.specs.Ordering.{is_lt, ordering_reverse}
@@ -55,7 +55,7 @@ joined_lists lists p zero = refl
 joined_lists lists p (suc k) = ap (λ t. lists p ++ t) (joined_lists lists (suc p) k)
 
 -- the order of rows is one that a merge needs
-is_order : {X : Type 0} {R : X → X → Ordering} → IsTotalOrder R → IsOrder R
+pub is_order : {X : Type 0} {R : X → X → Ordering} → IsTotalOrder R → IsOrder R
 is_order {X} {R} o = record {
   itself = λ x. ap is_lt (tied_itself o x);
   below = λ x b y lt ge. under x b y (R x b) refl (R y b) refl lt ge;

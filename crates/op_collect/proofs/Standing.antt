@@ -1,18 +1,18 @@
 -- What the collectors that pass each row at once want, and what they keep.
-use Rattle.std.proofs.Common.{◌≡◌, ℕ, zero, suc, ◌+◌, ◌<◌, ◌≤◌, ◌==◌, Bool, true, false, not, ◌&&◌, cond, ◌⊎◌, inl, inr, refl, sym, ap, ap₂, ◌∙◌, subst, List, [], ◌∷◌, ◌++◌, length, arith, get_or, set, Option, Some, None}
+use Rattle.std.proofs.Common.{◌≡◌, ℕ, suc, ◌+◌, ◌<◌, ◌≤◌, ◌==◌, Bool, true, false, not, cond, ◌⊎◌, inl, inr, refl, sym, ap, ap₂, ◌∙◌, subst, List, [], ◌∷◌, ◌++◌, length, arith, get_or, set, Some, None}
 use Rattle.std.specs.Prelude.{nat_lt}
 use Rattle.std.proofs.lemmas.Bool.{lt-ltb, ltb-true, le-ltb, ltb-false}
 use Rattle.std.proofs.lemmas.Bool.Decides.{eqb_tells}
 use Rattle.std.proofs.lemmas.List.{get_or-set_same, get_or-set_other, length-set}
-use Rattle.streams.specs.Streams.{Feed, ended, all_below}
+use Rattle.streams.specs.Streams.{Feed, ended}
 use Rattle.streams.specs.Operators.{picks, by_number, from_turn, turn_after, any_stream, ordered_stream, round_robin_stream}
-use Rattle.streams.proofs.Basics.{and_left, and_right}
+use Rattle.streams.proofs.Basics.{and_left}
 use Rattle.streams.proofs.Picks.{not_true, picks_open, least_rank, turn_inj}
 use Rattle.streams.proofs.StreamLaws.{all_from, not_all, true_false}
 use Rattle.op_base.specs.declared.operator.Want.TheVariants.{Port, Any, Nothing}
 use Rattle.op_base.specs.declared.fault.Fault.{Fault}
 use Rattle.op_base.specs.Columns.{Row}
-use Rattle.op_base.specs.Standing.{RowStream, row_feed, end_feed, Answers}
+use Rattle.op_base.specs.Standing.{row_feed, end_feed, Answers}
 use Rattle.op_base.proofs.StandingLaws.{ended-row}
 use Rattle.op_collect.specs.AreStreams.{ordered_is, round_is}
 use Rattle.op_collect.specs.Standing.{IsFirst, OrderedStands, RoundStands, GatherStands}

@@ -1,11 +1,11 @@
 -- What the round robin stream gives of whole lists: one row of each in turn.
-use Rattle.std.proofs.Common.{◌≡◌, ℕ, zero, suc, ◌+◌, ◌-◌, ◌<◌, ◌≤◌, ◌==◌, Bool, true, false, not, cond, ◌⊎◌, inl, inr, refl, sym, ap, ap₂, ◌∙◌, subst, List, [], ◌∷◌, ◌++◌, map, take, drop, length, append_assoc, arith}
+use Rattle.std.proofs.Common.{◌≡◌, ℕ, zero, suc, ◌+◌, ◌-◌, ◌<◌, ◌≤◌, ◌==◌, Bool, true, false, not, cond, ◌⊎◌, inl, inr, refl, sym, ap, ap₂, ◌∙◌, subst, List, [], ◌∷◌, ◌++◌, map, take, drop, append_assoc, arith}
 use Rattle.std.specs.List.{flat_map}
 use Rattle.std.specs.Prelude.{nat_lt}
 use Rattle.std.proofs.lemmas.Bool.{lt-ltb, ltb-true, le-ltb, ltb-false}
 use Rattle.std.proofs.lemmas.Bool.Decides.{eqb_tells}
 use Rattle.streams.specs.Lists.{lists_from}
-use Rattle.streams.specs.Streams.{Item, row, end, Feed, Out, rows, items_of, ended, rows_of, rows_out, emits_after, emits, FedAfter, Gives, IsStream}
+use Rattle.streams.specs.Streams.{Item, row, end, Feed, Out, rows, items_of, ended, rows_of, rows_out, emits_after, FedAfter, Gives}
 use Rattle.streams.specs.Operators.{picks, from_turn, turn_after, passing, set_at, round_robin_stream}
 use Rattle.streams.proofs.Collected.{none_after}
 use Rattle.streams.proofs.Collectors.{empty_lists, same_lists}
@@ -15,7 +15,7 @@ use Rattle.streams.proofs.StreamLaws.{eq_true, eq_false, rows-whole, rows_out-ap
 use Rattle.op_base.specs.declared.fault.Fault.{Fault}
 use Rattle.op_base.specs.Columns.{Row}
 use Rattle.op_base.specs.Lists.{rounds, longest, in_turn}
-use Rattle.op_base.specs.Standing.{RowStream, end_feed}
+use Rattle.op_base.specs.Standing.{RowStream}
 use Rattle.op_base.proofs.Interleavings.{interleaves_nothing, turns_interleave}
 use Rattle.op_base.proofs.StandingLaws.{ended-end}
 use Rattle.op_collect.specs.AreStreams.{round_is}

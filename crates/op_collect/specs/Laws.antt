@@ -3,7 +3,7 @@ use Rattle.std.specs.Prelude.{◌≡◌, ℕ, ◌<◌, List, map}
 use Rattle.std.specs.List.{AllByRecursion}
 use Rattle.streams.specs.Lists.{lists_from}
 use Rattle.streams.specs.Operators.{any_stream, ordered_stream, round_robin_stream, merge_stream}
-use Rattle.streams.specs.Streams.{Stream, Out, sends, Gives, IsStream}
+use Rattle.streams.specs.Streams.{Out, sends, Gives, IsStream}
 use Rattle.ds_schema.specs.declared.key.Key.{Key}
 use Rattle.ds_schema.specs.Rows.{row_cmp}
 use Rattle.op_base.specs.declared.fault.Fault.{Fault}

@@ -1,5 +1,6 @@
 //! What the streams of this crate give of whole lists. Each function's contract is its law, and
 //! calling it does nothing.
+ghost use Rattle.op_collect.specs.Merged.{OneMerge};
 ghost use Rattle.op_collect.specs.Laws.{OrderedJoins, RoundTakesTurns, SortMergeMerges, SortMergeArranges, GatherInterleaves};
 
 /// One input after another gives the inputs joined, for the collector and the funnel.
@@ -16,6 +17,11 @@ pub fn round_takes_turns()
 pub fn sort_merge_merges()
     ensures merged { SortMergeMerges }
     ensures arranged { SortMergeArranges }
+{}
+
+/// Any lists of rows have one merge by keys.
+pub fn one_merge()
+    ensures { OneMerge }
 {}
 
 /// Rows as they come are an interleaving of the inputs.

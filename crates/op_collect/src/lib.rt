@@ -16,6 +16,3 @@ pub use in_sequence::Sequence;
 pub use in_turn::Round;
 pub use makers::{gather, ordered, round, sequence, sort_merge};
 pub use merging::SortMerge;
-
-#[cfg(test)]
-mod tests;

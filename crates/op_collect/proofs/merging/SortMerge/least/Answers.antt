@@ -1,4 +1,4 @@
-use Rattle.std.proofs.Common.{◌≡◌, Bool, true, false, ℕ, Some, Option, cond, sym, ap, ◌∙◌}
+use Rattle.std.proofs.Common.{◌≡◌, Bool, Some, cond, sym, ap, ◌∙◌}
 use Rattle.op_collect.proofs.Lanes.{least_next, least_within}
 use Rattle.op_collect.proofs.merging.SortMerge.least.Goals.{then-is_less, else-is_less}
 use Rattle.op_collect.proofs.merging.SortMerge.least.Goals as goal
