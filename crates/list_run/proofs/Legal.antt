@@ -135,7 +135,7 @@ delivers c choices nodes given r l m =
     let fits = (all_fit c choices nodes given r l m).0 in
     let joins = subst (λ d. Joins (into_seq c l) (choice_at c l).method d n) (sym fits.0) (r.run.joins l m) in
     record {
-      mid = routed (choice_at c l).method n (sent_in c nodes given l);
+      mid = routed (into_seq c l) (choice_at c l).method n (sent_in c nodes given l);
       some = subst (λ k. 0 < k) (sym (routed_long (into_seq c l) (choice_at c l).method n (sent_in c nodes given l) joins)) (some_degree c nodes (link_at c l).to r.run.some);
       arrives = routed_arrives (into_seq c l) (choice_at c l).method n (sent_in c nodes given l) joins;
       sorted = got_means c choices nodes given r l m;

@@ -1,15 +1,20 @@
 -- What is said of each row is kept on the way.
-use Rattle.std.proofs.Common.{ℕ, zero, suc, ◌+◌, ◌%◌, ◌==◌, Bool, true, false, cond, sym, subst, List, [], ◌∷◌, map, replicate, Option, Some, None}
+use Rattle.std.proofs.Common.{ℕ, zero, suc, ◌+◌, ◌%◌, ◌==◌, Bool, true, false, cond, sym, subst, List, [], ◌∷◌, map, replicate, get_or, set, Option, Some, None}
 use Rattle.std.specs.List.{AllByRecursion, flat_map, range_with_len}
-use Rattle.streams.specs.Lists.{onto_run, runs_of}
+use Rattle.streams.specs.Lists.{Interleaves, onto_run, runs_of}
 use Rattle.ds_schema.specs.declared.key.Key.{Key}
+use Rattle.ds_schema.specs.Rows.{row_cmp}
 use Rattle.op_base.specs.Columns.{Row}
 use Rattle.op_base.specs.Keyed.{arranged, get_keys}
-use Rattle.op_base.specs.Lists.{joined}
+use Rattle.op_base.specs.Lists.{in_turn, joined}
 use Rattle.op_base.specs.Meanings.{one_row}
 use Rattle.op_base.proofs.All.{all_append, all_each}
+use Rattle.op_base.proofs.Interleavings.{turns_interleave}
 use Rattle.op_base.proofs.KeySorts.{one_row_all}
+use Rattle.op_base.proofs.Merging.{merge_rows_interleave}
 use Rattle.op_base.proofs.RowLists.{by_key_all}
+use Rattle.op_collect.specs.Merged.{merged}
+use Rattle.op_collect.proofs.OneMerge.{rows_merge}
 use Rattle.op_order.specs.Ordered.{same_key}
 use Rattle.flow_graph.specs.Destinations.{lane, lanes_to}
 use Rattle.flow_graph.specs.declared.op_kind.OpKind.{OpKind}
@@ -87,17 +92,43 @@ pub all_copies : {X : Type 0} (P : X → Type 0) (x : X) → P x → (n : ℕ) �
 all_copies P x h zero = tt
 all_copies P x h (suc n) = (h, all_copies P x h n)
 
-routed_all : (P : Row → Type 0) (m : Route) (n : ℕ) (sent : List (List Row)) → Each P sent → Each P (routed m n sent)
-routed_all P route.RoundRobin n sent h = dealt_all P (λ p t r. (p + t) % n) n sent h
-routed_all P route.Entire n sent h = all_copies (AllByRecursion P) (joined sent) (joined_all P sent h) n
-routed_all P (route.Hash K) n sent h = dealt_all P (λ p t r. place_number (place.Hash K) r n) n sent h
-routed_all P route.Any n sent h = (joined_all P sent h, tt)
-routed_all P route.Ordered n sent h = (joined_all P sent h, tt)
-routed_all P m n sent h = h
+at_all : (P : Row → Type 0) (lists : List (List Row)) (i : ℕ) → Each P lists → AllByRecursion P (get_or lists i [])
+at_all P [] i h = tt
+at_all P (rows ∷ lists) zero h = h.0
+at_all P (rows ∷ lists) (suc i) h = at_all P lists i h.1
+
+set_all : (P : Row → Type 0) (lists : List (List Row)) (i : ℕ) (rest : List Row) → Each P lists → AllByRecursion P rest → Each P (set lists i rest)
+set_all P [] i rest h k = tt
+set_all P (rows ∷ lists) zero rest h k = (k, h.1)
+set_all P (rows ∷ lists) (suc i) rest h k = (h.0, set_all P lists i rest h.1 k)
+
+-- an interleaving has the rows of its lists
+interleaved_all : (P : Row → Type 0) (lists : List (List Row)) (rows : List Row) → Interleaves lists rows → Each P lists → AllByRecursion P rows
+interleaved_all P lists [] i h = tt
+interleaved_all P lists (r ∷ rows) i h =
+    let here : AllByRecursion P (r ∷ i.1) = subst (AllByRecursion P) i.3 (at_all P lists i.0 h) in
+    (here.0, interleaved_all P (set lists i.0 i.1) rows i.4 (set_all P lists i.0 i.1 h here.1))
+
+in_turn_all : (P : Row → Type 0) (sent : List (List Row)) → Each P sent → AllByRecursion P (in_turn sent)
+in_turn_all P sent h = interleaved_all P sent (in_turn sent) (turns_interleave sent) h
+
+merged_all : (P : Row → Type 0) (keys : List Key) (sent : List (List Row)) → Each P sent → AllByRecursion P (merged (row_cmp keys) sent)
+merged_all P keys sent h = interleaved_all P sent (merged (row_cmp keys) sent) (merge_rows_interleave keys sent (merged (row_cmp keys) sent) (rows_merge keys sent).0) h
+
+routed_all : (P : Row → Type 0) (seq : Bool) (m : Route) (n : ℕ) (sent : List (List Row)) → Each P sent → Each P (routed seq m n sent)
+routed_all P true route.RoundRobin n sent h = (in_turn_all P sent h, tt)
+routed_all P false route.RoundRobin n sent h = dealt_all P (λ p t r. (p + t) % n) n sent h
+routed_all P seq route.Entire n sent h = all_copies (AllByRecursion P) (joined sent) (joined_all P sent h) n
+routed_all P seq (route.Hash K) n sent h = dealt_all P (λ p t r. place_number (place.Hash K) r n) n sent h
+routed_all P seq (route.Modulus c) n sent h = dealt_all P (λ p t r. place_number (place.Modulus c) r n) n sent h
+routed_all P seq (route.Merge keys) n sent h = (merged_all P keys sent h, tt)
+routed_all P seq route.Any n sent h = (joined_all P sent h, tt)
+routed_all P seq route.Ordered n sent h = (joined_all P sent h, tt)
+routed_all P seq m n sent h = h
 
 arranged_if_all : (P : Row → Type 0) (sort : Option (List Key)) (rows : List Row) → AllByRecursion P rows → AllByRecursion P (arranged_if sort rows)
 arranged_if_all P None rows h = h
 arranged_if_all P (Some keys) rows h = arranged_all P keys rows h
 
-pub delivered_all : (P : Row → Type 0) (choice : Choice) (n : ℕ) (sent : List (List Row)) → Each P sent → Each P (delivered choice n sent)
-delivered_all P choice n sent h = map_each P (arranged_if choice.sort) (arranged_if_all P choice.sort) (routed choice.method n sent) (routed_all P choice.method n sent h)
+pub delivered_all : (P : Row → Type 0) (seq : Bool) (choice : Choice) (n : ℕ) (sent : List (List Row)) → Each P sent → Each P (delivered seq choice n sent)
+delivered_all P seq choice n sent h = map_each P (arranged_if choice.sort) (arranged_if_all P choice.sort) (routed seq choice.method n sent) (routed_all P seq choice.method n sent h)

@@ -141,8 +141,8 @@ got_fits c nodes given l is j f =
     let n = degree_at c nodes (link_at c l).to in
     let sent = sent_in c nodes given l in
     let j' = subst (λ (k : ℕ). Joins (into_seq c l) (choice_at c l).method k n) (sym f.0) j in (
-      ap length is ∙ length-map (routed (choice_at c l).method n sent) (arranged_if (choice_at c l).sort) ∙ routed_long (into_seq c l) (choice_at c l).method n sent j',
-      subst (λ (g : List (List Row)). Each (FitsFields (fields_at c l)) g) (sym is) (delivered_all (FitsFields (fields_at c l)) (choice_at c l) n sent f.1),
+      ap length is ∙ length-map (routed (into_seq c l) (choice_at c l).method n sent) (arranged_if (choice_at c l).sort) ∙ routed_long (into_seq c l) (choice_at c l).method n sent j',
+      subst (λ (g : List (List Row)). Each (FitsFields (fields_at c l)) g) (sym is) (delivered_all (FitsFields (fields_at c l)) (into_seq c l) (choice_at c l) n sent f.1),
     )
 
 -- what is asked of a flow

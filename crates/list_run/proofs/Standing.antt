@@ -23,7 +23,7 @@ use Rattle.list_run.specs.Found.{Tallies, found_by}
 use Rattle.list_run.specs.Held.{CameFits, MaySend, Steps, found_at, inputs_of, sent_from, sent_on, got_on, waits}
 use Rattle.list_run.specs.Routed.{Joins, SuitsRoute}
 use Rattle.flow_rules.specs.Exports.{IsExport, input_of}
-use Rattle.list_run.specs.Runnable.{degree_at, row_count, IsRunnable}
+use Rattle.list_run.specs.Runnable.{degree_at, row_count, IsRunnable, TakesWhole}
 use Rattle.flow_ops.specs.Kinds.{widths_into}
 use Rattle.list_run.specs.Turns.{HadTurn, Stands, found_after, got_in, sent_in}
 use Rattle.list_run.proofs.Inputs.{ports_at, some_member, some_of_one}
@@ -74,27 +74,27 @@ held_sent c choices nodes given n rest held r m stands l k e =
     ∙ sym (ap (λ p. sent_from c l p (inputs_of c p (got_in c nodes given)) (get_or given l [])) e)
 
 -- rows suit the routes that are written
-suits_row : (m : Route) (fields : List Field) → RouteFits (length fields) m → (r : Row) → FitsFields fields r → SuitsRoute m r
-suits_row route.Same fields f r h = tt
-suits_row route.RoundRobin fields f r h = tt
-suits_row route.Entire fields f r h = tt
-suits_row (route.Hash K) fields f r h = (All-from_recursion (InWidth r) K (columns K f), h.1)
+suits_row : (m : Route) (fields : List Field) → RouteFits (length fields) m → TakesWhole fields m → (r : Row) → FitsFields fields r → SuitsRoute m r
+suits_row route.Same fields f w r h = tt
+suits_row route.RoundRobin fields f w r h = tt
+suits_row route.Entire fields f w r h = tt
+suits_row (route.Hash K) fields f w r h = (All-from_recursion (InWidth r) K (columns K f), h.1)
   where
     columns : (cs : List ℕ) → Lies cs (all_columns (length fields)) → AllByRecursion (InWidth r) cs
     columns [] l = tt
     columns (x ∷ cs) l = (subst (λ n. x < n) (fits_length fields r h.0) (all_in (length fields) x l.0), columns cs l.1)
-suits_row (route.Modulus x) fields f r h = tt
-suits_row route.Any fields f r h = tt
-suits_row route.Ordered fields f r h = tt
-suits_row (route.Merge keys) fields f r h = tt
+suits_row (route.Modulus x) fields f w r h = (All-from_recursion (InWidth r) (x ∷ []) (subst (λ n. x < n) (fits_length fields r h.0) (all_in (length fields) x f), tt), w r h, h.1)
+suits_row route.Any fields f w r h = tt
+suits_row route.Ordered fields f w r h = tt
+suits_row (route.Merge keys) fields f w r h = tt
 
-suits_list : (m : Route) (fields : List Field) → RouteFits (length fields) m → (rows : List Row) → AllByRecursion (FitsFields fields) rows → AllByRecursion (SuitsRoute m) rows
-suits_list m fields f [] h = tt
-suits_list m fields f (r ∷ rows) h = (suits_row m fields f r h.0, suits_list m fields f rows h.1)
+suits_list : (m : Route) (fields : List Field) → RouteFits (length fields) m → TakesWhole fields m → (rows : List Row) → AllByRecursion (FitsFields fields) rows → AllByRecursion (SuitsRoute m) rows
+suits_list m fields f w [] h = tt
+suits_list m fields f w (r ∷ rows) h = (suits_row m fields f w r h.0, suits_list m fields f w rows h.1)
 
-suits_lists : (m : Route) (fields : List Field) → RouteFits (length fields) m → (lists : List (List Row)) → Each (FitsFields fields) lists → AllByRecursion (All (SuitsRoute m)) lists
-suits_lists m fields f [] h = tt
-suits_lists m fields f (rows ∷ lists) h = (All-from_recursion (SuitsRoute m) rows (suits_list m fields f rows h.0), suits_lists m fields f lists h.1)
+suits_lists : (m : Route) (fields : List Field) → RouteFits (length fields) m → TakesWhole fields m → (lists : List (List Row)) → Each (FitsFields fields) lists → AllByRecursion (All (SuitsRoute m)) lists
+suits_lists m fields f w [] h = tt
+suits_lists m fields f w (rows ∷ lists) h = (All-from_recursion (SuitsRoute m) rows (suits_list m fields f w rows h.0), suits_lists m fields f w lists h.1)
 
 route_fits : (seq : Bool) (w : ℕ) (m : Option Route) → WrittenFits seq w m → RouteFits w (written_or_same m)
 route_fits seq w None f = tt
@@ -114,7 +114,7 @@ may_send c choices nodes given n rest held r m stands = λ l k e.
     let P : List (List Row) → Type 0 = λ s. Joins (into_seq c l) (choice_at c l).method (length s) (degree_at c nodes (link_at c l).to) × All (All (SuitsRoute (choice_at c l).method)) s in
     subst P (sym (held_sent c choices nodes given n rest held r m stands l k e)) (
       subst (λ d. Joins (into_seq c l) (choice_at c l).method d (degree_at c nodes (link_at c l).to)) (sym fits.0) (r.run.joins l k),
-      All-from_recursion (All (SuitsRoute (choice_at c l).method)) (sent_in c nodes given l) (suits_lists (choice_at c l).method (get_or c.schemas l []) route (sent_in c nodes given l) fits.1),
+      All-from_recursion (All (SuitsRoute (choice_at c l).method)) (sent_in c nodes given l) (suits_lists (choice_at c l).method (get_or c.schemas l []) route (r.run.whole l k) (sent_in c nodes given l) fits.1),
     )
 
 -- the rows that wait for it fit

@@ -40,7 +40,7 @@ waits held l = get_or held.waiting.items l []
 
 -- and what comes of it
 abbrev pub got_on : Chart → ℕ → ℕ → List (List Row) → List (List Row)
-got_on c nodes l sent = delivered (choice_at c l) (degree_at c nodes (link_at c l).to) sent
+got_on c nodes l sent = delivered (into_seq c l) (choice_at c l) (degree_at c nodes (link_at c l).to) sent
 
 -- there is a place for each link and each operator
 pub record HasRoom (c : Chart) (held : Held) : Type 0 where

@@ -1,8 +1,10 @@
 -- The flows that are run here, the operators of such a flow, and what a run leaves.
-use Rattle.std.specs.Prelude.{◌≡◌, ℕ, ◌<◌, ◌-◌, ◌^◌, min, Bool, true, cond, List, [], length, map, get_or, All, None}
+use Rattle.std.specs.Prelude.{◌≡◌, ℕ, ◌<◌, ◌-◌, ◌^◌, min, Bool, true, cond, List, [], length, map, get_or, All, None, ⊤}
 use Rattle.std.specs.List.{AllByRecursion, flat_map, range_with_len}
 use Rattle.std.specs.List.Sorted.{IsPermutation}
-use Rattle.ds_schema.specs.Rows.{ways}
+use Rattle.ds_schema.specs.declared.schema.Field.{Field}
+use Rattle.ds_schema.specs.Rows.{at, ways}
+use Rattle.ds_place.specs.Places.{IsWhole}
 use Rattle.op_base.specs.declared.fault.Fault.{Fault}
 use Rattle.op_base.specs.Columns.{Row, IsIn}
 use Rattle.op_base.specs.Emits.{counted, least_of}
@@ -14,6 +16,8 @@ use Rattle.op_join.specs.declared.kind.JoinKind.TheVariants.{Inner, Left, Right,
 use Rattle.flow_graph.specs.declared.op_kind.OpKind.{OpKind}
 use Rattle.flow_graph.specs.declared.op_kind.OpKind.TheVariants as kind
 use Rattle.flow_graph.specs.declared.route.Choice.{Choice}
+use Rattle.flow_graph.specs.declared.route.Route.{Route}
+use Rattle.flow_graph.specs.declared.route.Route.TheVariants as route
 use Rattle.flow_graph.specs.Charts.{Chart, link_at, all_links, links_from, op_at, is_seq, into_seq, keys_at, cols_at, parts_of, first_fields}
 use Rattle.flow_graph.specs.Fitting.{FitsFields, KeepsFields, PassesFields}
 use Rattle.flow_graph.specs.FlowShape.{IsShape}
@@ -55,12 +59,18 @@ IsBuilt c o (kind.FullOuterJoin key) = GivesFields c o (joined_by Full (parts_of
 IsBuilt c o (kind.Lookup key missing) = GivesFields c o (looked_by o missing (parts_of c o) (widths_into c o)) × (length (get_keys (keys_at c o) 0) ≡ length (get_keys (keys_at c o) 1))
 IsBuilt c o k = ⊥
 
+-- a column of which a remainder is taken holds whole numbers or null, in each row that fits the link
+abbrev pub TakesWhole : List Field → Route → Type 0
+TakesWhole fields (route.Modulus x) = (r : Row) → FitsFields fields r → IsWhole (at r x)
+TakesWhole fields m = ⊤
+
 -- a flow with its choices, and by link the rows that imports put there
 pub record CanRun (c : Chart) (choices : List Choice) (nodes : ℕ) (sources : List (List Row)) : Type 0 where
   pub chosen : choices ≡ map (choice_at c) (all_links c)
   pub some : 0 < nodes
   pub built : (o : ℕ) → o < length c.flow.ops → IsBuilt c o (op_at c o).kind
   pub joins : (l : ℕ) → l < length c.flow.links → Joins (into_seq c l) (choice_at c l).method (degree_at c nodes (link_at c l).from) (degree_at c nodes (link_at c l).to)
+  pub whole : (l : ℕ) → l < length c.flow.links → TakesWhole (get_or c.schemas l []) (choice_at c l).method
   pub given : length sources ≡ length c.flow.links
   pub rows : (l : ℕ) → l < length c.flow.links → All (FitsFields (get_or c.schemas l [])) (get_or sources l [])
 

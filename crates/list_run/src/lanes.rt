@@ -1,6 +1,6 @@
 //! Rows on their way from the partitions of a producer to those of a consumer.
 
-ghost use Rattle.std.specs.Prelude.{◌≡◌, ◌<◌, ◌+◌, ◌%◌, ◌∷◌, ◌++◌, [], ℕ, length, get_or, slice_set, replicate, OnOk, IfOk, All};
+ghost use Rattle.std.specs.Prelude.{◌≡◌, ◌<◌, ◌+◌, ◌%◌, ◌∷◌, ◌++◌, [], ℕ, length, get_or, slice_set, replicate, OnOk, IfOk, All, false};
 ghost use Rattle.op_base.specs.Lists.{joined};
 ghost use Rattle.ds_place.specs.Places.{place_number};
 ghost use Rattle.list_run.specs.Dealt.{Deals, dealt, turn_goes};
@@ -182,9 +182,24 @@ pub(crate) fn by_hash(
 ) -> Result<Partitions, NoMemory>
     requires some { 0 < count }
     requires rows { All (All (SuitsRoute (Route.Hash columns.now))) sent }
-    ensures { IfOk result (λ got. got ≡ routed (Route.Hash columns.now) count sent) }
+    ensures { IfOk result (λ got. got ≡ routed false (Route.Hash columns.now) count sent) }
 {
     let place = Place::Hash(columns.copied()?);
     let got = by_place(alloc, &place, sent, count)?;
+    Ok(got)
+}
+
+/// By the remainder of a column.
+pub(crate) fn by_remainder(
+    alloc: Global,
+    column: u32,
+    sent: Partitions,
+    count: u32,
+) -> Result<Partitions, NoMemory>
+    requires some { 0 < count }
+    requires rows { All (All (SuitsRoute (Route.Modulus column))) sent }
+    ensures { IfOk result (λ got. got ≡ routed false (Route.Modulus column) count sent) }
+{
+    let got = by_place(alloc, &Place::Modulus(column), sent, count)?;
     Ok(got)
 }

@@ -42,7 +42,7 @@ use Rattle.flow_sound.proofs.Order.{leaves_it}
 use Rattle.flow_sound.proofs.RowsStaying.{keyed_rows_stay, rows_stay}
 use Rattle.flow_ops.specs.Kinds.{joined_by, looked_by, widths_into}
 use Rattle.list_run.specs.Routed.{Joins}
-use Rattle.list_run.specs.Runnable.{CanRun, IsBuilt, degree_at}
+use Rattle.list_run.specs.Runnable.{CanRun, IsBuilt, TakesWhole, degree_at}
 use Rattle.osh_ends.specs.Built.{is_built, is_built_link, is_built_method, is_built_op, is_prop, needs_sort}
 use Rattle.osh_sound.specs.Sound.{MarkFits}
 use Rattle.run_feed.specs.Fed.{IsReady}
@@ -187,6 +187,21 @@ link_joins c choices nodes s r l h =
     (λ e. equal_ends c choices nodes s r l h (ap (λ w. is_same (written_or_same w)) written ∙ e))
     (subst (WrittenFits (into_seq c l) (width_at c l)) written (s.links l h).written))
 
+-- a method that is built takes no remainder
+takes_by : (m : Method) (from to sorts : Bool) (named fields : List Field) → is_built_method from to sorts m ≡ true → TakesWhole fields (written_or_same (written_route named m))
+takes_by method.Auto from to sorts named fields b = tt
+takes_by method.Same from to sorts named fields b = tt
+takes_by method.RoundRobin from to sorts named fields b = tt
+takes_by method.Entire from to sorts named fields b = tt
+takes_by (method.Hash names) from to sorts named fields b = tt
+takes_by method.Any from to sorts named fields b = tt
+takes_by m from to sorts named fields b = cc
+
+link_takes : (c : Chart) (choices : List Choice) (nodes : ℕ) → IsReady c choices nodes → (l : ℕ) → l < length c.flow.links → TakesWhole (get_or c.schemas l []) (choice_at c l).method
+link_takes c choices nodes r l h =
+    subst (λ w. TakesWhole (get_or c.schemas l []) (written_or_same w)) (sym (written_is c choices nodes r l h))
+    (takes_by (link_at c l).method (is_seq (op_at c (link_at c l).from).mark) (into_seq c l) (needs_sort (op_at c (link_at c l).to).kind) (fields_at c l) (get_or c.schemas l []) (built_method c choices nodes r l h))
+
 -- it can be run over rows of the columns of the links
 pub can_run : (c : Chart) (choices : List Choice) (nodes : ℕ) (sources : List (List Row)) → IsShape c → IsReady c choices nodes → length sources ≡ length c.flow.links
     → ((l : ℕ) → l < length c.flow.links → All (FitsFields (get_or c.schemas l [])) (get_or sources l [])) → CanRun c choices nodes sources
@@ -195,6 +210,7 @@ can_run c choices nodes sources s r given rows = record {
   some = r.some;
   built = op_runs c choices nodes s r;
   joins = link_joins c choices nodes s r;
+  whole = link_takes c choices nodes r;
   given = given;
   rows = rows;
 }

@@ -32,7 +32,7 @@ returns c =
     let at = link_read chart c.as_slice.result.now c.args.link c.index-as_slice-link.result (c.as_slice.ensures ∙ ap (λ f. f.links) c.flow.ensures) c.requires.link in
     let degree = c.degree-count.ensures ∙ ap (λ (s : LinkSpec). degree_at chart c.args.nodes s.to) at in
     put_one chart c.args.nodes c.args.link c.args.sent c.args.held.now _ c.requires.link c.requires.room
-    (ap (set c.args.held.now.waiting.items c.args.link) (c.in_ok-held.ensures ∙ ap (λ ch. delivered ch c.degree-count.result c.args.sent) chosen ∙ ap (λ n. delivered (choice_at chart c.args.link) n c.args.sent) degree))
+    (ap (set c.args.held.now.waiting.items c.args.link) (c.in_ok-held.ensures ∙ ap (λ s. delivered s c.index-choices-link.result c.degree-count.result c.args.sent) (c.is_sequential-sequential.ensures ∙ ap (λ (s : LinkSpec). is_seq (op_at chart s.to).mark) at) ∙ ap (λ ch. delivered (into_seq chart c.args.link) ch c.degree-count.result c.args.sent) chosen ∙ ap (λ n. delivered (into_seq chart c.args.link) (choice_at chart c.args.link) n c.args.sent) degree))
     (ap (set c.args.held.now.counts.items c.args.link) c.count_rows.ensures)
     refl
     refl
