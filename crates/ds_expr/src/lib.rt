@@ -19,6 +19,3 @@ pub use expr_table::{Arg, EvalFault, Shape};
 pub use fault::TypeFault;
 pub use node::{Applied, Node, Typing};
 pub use typed::{Typed, copy_typed, shape_of};
-
-#[cfg(test)]
-mod tests;

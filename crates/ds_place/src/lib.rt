@@ -6,6 +6,3 @@ mod place;
 
 pub use hash::fnv;
 pub use place::{Place, partition_of};
-
-#[cfg(test)]
-mod tests;

@@ -20,6 +20,3 @@ pub use schema_text::{
     SchemaFault, SchemaWhy, is_field_name, laws, parse_field, parse_kind, parse_schema,
     print_schema, read_schema, size_of,
 };
-
-#[cfg(test)]
-mod tests;

@@ -30,6 +30,3 @@ pub use name::{Name, Name0};
 pub use text::{TextFault, read_text};
 pub use value::{Value, cmp, copy_value};
 pub use write::write_text;
-
-#[cfg(test)]
-mod tests;

@@ -25,8 +25,3 @@ pub use holder::Table;
 pub use laws::{nulls_are_exact, results_fit};
 pub use rows::table;
 pub use scale::result_scale;
-
-#[cfg(test)]
-mod edges;
-#[cfg(test)]
-mod tests;

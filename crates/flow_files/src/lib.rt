@@ -11,8 +11,3 @@ pub use export::export_rows;
 pub use fault::FileFault;
 pub use import::{Imported, import_rows};
 pub use tally::Tally;
-
-#[cfg(test)]
-mod kind_tests;
-#[cfg(test)]
-mod tests;

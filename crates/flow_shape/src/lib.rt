@@ -23,8 +23,3 @@ pub use fault::ShapeFault;
 pub use op_shape::ShapeWhy;
 pub use sequence::{one_order, ordered_is_free};
 pub use shaping::shape;
-
-#[cfg(test)]
-mod keyed_tests;
-#[cfg(test)]
-mod tests;

@@ -16,6 +16,3 @@ pub use agg::Agg;
 pub use groups::{group_hashed, group_sorted};
 pub use hashed::GroupHashed;
 pub use sorted::GroupSorted;
-
-#[cfg(test)]
-mod tests;

@@ -12,6 +12,3 @@ mod side;
 pub use joiner::Join;
 pub use kind::JoinKind;
 pub use maker::join;
-
-#[cfg(test)]
-mod tests;

@@ -11,6 +11,3 @@ mod table;
 
 pub use looker::Lookup;
 pub use maker::lookup;
-
-#[cfg(test)]
-mod tests;

@@ -1,7 +1,7 @@
 -- Rows of one width suit.
 use Rattle.std.proofs.Common.{◌≡◌, ℕ, zero, suc, ◌==◌, Bool, true, false, ◌&&◌, cond, refl, sym, ap, ap₂, ◌∙◌, subst, inl, inr, List, [], ◌∷◌, ◌++◌, map, length, append-nil}
 use Rattle.std.specs.Prelude.{nat_lt}
-use Rattle.std.specs.List.{list_all}
+use Rattle.std.specs.List.{AllByRecursion, list_all}
 use Rattle.std.proofs.lemmas.Bool.Decides.{eqb_tells}
 use Rattle.streams.specs.Streams.{Feed, Item, row, end, items_of, rows, rows_of}
 use Rattle.streams.proofs.Basics.{and_left, and_right, and_true}
@@ -12,6 +12,7 @@ use Rattle.op_base.specs.Columns.{Row, is_short}
 use Rattle.op_base.specs.Standing.{end_feed, row_feed}
 use Rattle.op_base.proofs.StandingLaws.{rows_of-end}
 use Rattle.op_match.specs.Captures.{can_change, capture_suits, has_columns}
+use Rattle.op_match.specs.Merges.{suits_from}
 use Rattle.op_match.specs.Suiting.{row_suits, WideSuit}
 
 rows-snoc : (items : List (Item Row)) (r : Row) → rows (items ++ row r ∷ []) ≡ rows items ++ r ∷ []
@@ -56,3 +57,16 @@ captures_wide width keys values h k = record {
       let p : Row → Bool = can_change keys values in
       and_true (rows_end p 0 port feeds (and_left (list_all p (rows_of 0 feeds)) (list_all p (rows_of 1 feeds)) f)) (rows_end p 1 port feeds (and_right (list_all p (rows_of 0 feeds)) (list_all p (rows_of 1 feeds)) f));
 }
+
+-- all inputs of a merge have this width
+pub merges_wide : (width i : ℕ) (widths : List ℕ) → AllByRecursion (λ w. w ≡ width) widths → WideSuit width (suits_from i widths)
+merges_wide width i [] h = record { none = refl; more = λ port r feeds s f. refl; over = λ port feeds f. refl }
+merges_wide width i (w ∷ widths) h =
+    let rest : WideSuit width (suits_from (suc i) widths) = merges_wide width (suc i) widths h.1 in
+    let suited : List (Feed Row) → Bool = λ feeds. list_all (row_suits w) (rows_of i feeds) in
+    let others : List (Feed Row) → Bool = suits_from (suc i) widths in
+    record {
+      none = and_true refl rest.none;
+      more = λ port r feeds s f. and_true (rows_all (row_suits w) i port r feeds (and_left (suited feeds) (others feeds) f) (subst (λ n. row_suits n r ≡ true) (sym h.0) s)) (rest.more port r feeds s (and_right (suited feeds) (others feeds) f));
+      over = λ port feeds f. and_true (rows_end (row_suits w) i port feeds (and_left (suited feeds) (others feeds) f)) (rest.over port feeds (and_right (suited feeds) (others feeds) f));
+    }

@@ -14,6 +14,3 @@ mod sides;
 pub use captures::Capture;
 pub use maker::{capture, merger};
 pub use merge::Merger;
-
-#[cfg(test)]
-mod tests;

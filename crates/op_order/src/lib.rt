@@ -10,6 +10,3 @@ mod sorter;
 pub use deduplicator::Remdup;
 pub use orders::{remdup, tsort};
 pub use sorter::Tsort;
-
-#[cfg(test)]
-mod tests;

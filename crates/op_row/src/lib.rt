@@ -18,6 +18,3 @@ pub use setting::Set;
 pub use sifting::Filter;
 pub use switching::Switcher;
 pub use transforming::Transform;
-
-#[cfg(test)]
-mod tests;

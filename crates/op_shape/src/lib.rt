@@ -13,8 +13,3 @@ pub use options::own_cause;
 pub use outputs::{line_schema, output_schema};
 pub use parts::operator_parts;
 pub use shape_base::{ShapeWhy, naming};
-
-#[cfg(test)]
-mod keyed_tests;
-#[cfg(test)]
-mod tests;

@@ -2,8 +2,6 @@
 //! be spelled: each function does nothing, and its contract is the law.
 #![tactic(auto)]
 
-#[cfg(test)]
-mod tests;
 mod worked;
 
 ghost use Rattle.osh_back.specs.BackLaws.{PrintedReadsBack, ReadCanBeSpelled};

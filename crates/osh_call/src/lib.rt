@@ -12,6 +12,3 @@ pub use checking::{judged, shaped};
 pub use err_line::{say, status};
 pub use stages::{absent, flow_at, nodes_at};
 pub use telling::{check, tell};
-
-#[cfg(test)]
-mod tests;

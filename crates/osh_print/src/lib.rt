@@ -8,6 +8,3 @@ mod options;
 mod value;
 
 pub use flow::print_flow;
-
-#[cfg(test)]
-mod tests;

@@ -13,6 +13,3 @@ mod token;
 pub use fault::{OshFault, OshWhy};
 pub use flow::read_flow;
 pub use stages::plain_mark;
-
-#[cfg(test)]
-mod tests;

@@ -5,6 +5,3 @@ mod input;
 mod run;
 
 pub use run::run_ports;
-
-#[cfg(test)]
-mod tests;

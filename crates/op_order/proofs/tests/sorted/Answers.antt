@@ -1,6 +1,0 @@
-use Rattle.std.proofs.Common.{[]}
-use Rattle.op_base.proofs.ListFeeds.{suits_any}
-use Rattle.op_order.proofs.tests.sorted.Goals as goal
-
-pub run_list-requires-clause-suits : goal.run_list-requires-clause-suits
-run_list-requires-clause-suits c = suits_any [] _

@@ -1,6 +1,0 @@
-use Rattle.std.specs.List.{AllByRecursion}
-use Rattle.op_row.specs.Expressed.{IsSet}
-use Rattle.op_row.proofs.tests.transforming.sets.Given as goal
-
-abbrev pub invariant-loop-plan : goal.invariant-loop-plan
-invariant-loop-plan l = AllByRecursion (IsSet l.schema) l.sets.items
