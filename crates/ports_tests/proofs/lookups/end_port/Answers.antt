@@ -1,0 +1,24 @@
+use Rattle.std.proofs.Common.{Bool, List, ap, ◌∙◌, ◌∷◌, ◌++◌, []}
+use Rattle.streams.specs.Streams.{Feed}
+use Rattle.op_base.specs.Columns.{Row}
+use Rattle.op_base.specs.Standing.{end_feed}
+use Rattle.op_lookup.specs.Looked.{looked_stream}
+use Rattle.op_lookup.proofs.Suiting.{port_wanted, suits-end}
+use Rattle.ports_tests.proofs.lookups.end_port.Goals as goal
+
+pub end-requires : goal.end-requires
+end-requires c = record {
+  feeds = c.requires.stands.0;
+  stands = c.requires.stands.1;
+  wanted = port_wanted (looked_stream c.args.op.now.columns.main.items c.args.op.now.columns.reference.items c.args.op.now.columns.width c.args.op.now.missing) c.requires.stands.0 c.wants.result c.in-Port.wanted c.args.port c.in-Port.is c.if-wanted-port.false
+      (c.wants.ensures c.requires.stands.0 c.requires.stands.1);
+  suited = ap (λ (suits : List (Feed Row) → Bool). suits (c.requires.stands.0 ++ end_feed c.args.port ∷ [])) c.requires.suits
+      ∙ suits-end c.args.main.now c.args.width c.requires.stands.0 c.args.port c.requires.stands.2;
+}
+
+pub returns-clause-stands : goal.returns-clause-stands
+returns-clause-stands c = (
+  c.requires.stands.0 ++ end_feed c.args.port ∷ [],
+  c.in_ok-end.ensures.stands c.requires.stands.0 c.requires.stands.1,
+  suits-end c.args.main.now c.args.width c.requires.stands.0 c.args.port c.requires.stands.2,
+)
