@@ -1,5 +1,5 @@
 -- Dates by their texts.
-use Rattle.std.proofs.Common.{◌≡◌, ℕ, ℤ, List, Bool, true, false, Some, None, refl, sym, ap, ◌∙◌, take, drop}
+use Rattle.std.proofs.Common.{◌≡◌, ℕ, ℤ, List, Bool, true, false, Some, None, refl, sym, ap, subst, ◌∙◌, take, drop}
 use Rattle.std.specs.Prelude.{if◌then◌else◌, ◌&&◌, nat_le}
 use Rattle.std.specs.Str.{bytes_eq}
 use Rattle.std.specs.Cmp.{first_so, second_so}
@@ -13,7 +13,7 @@ use Rattle.ds_value.specs.Calendar.{IsDate, days_in_month, day_number}
 use Rattle.ds_value.specs.Spellings.{Spells, SpellsDate, number_of, date_text}
 use Rattle.ds_value.proofs.LastDigits.{number_of-last_digits}
 use Rattle.ds_value.proofs.DateTexts.{of_form, date_short, spelled_in_range}
-use Rattle.ds_expr.specs.Literals.{is_date, date_literal, day_in}
+use Rattle.ds_expr.specs.Literals.{is_date, date_literal, day_in, DatesAreSpelled}
 
 is_date_so : (y m d : ℕ) → IsDate y m d → is_date y m d ≡ true
 is_date_so y m d h =
@@ -74,12 +74,19 @@ pub no_day : (bytes : List ℕ) → ((v : Value) → Spells kind.Date bytes v �
 unfolding date_literal
 no_day bytes none = none_if _ bytes (number_of (take 4 bytes)) (number_of (take 2 (drop 5 bytes))) (number_of (take 2 (drop 8 bytes))) refl none
 
-in_range_if : (t : Bool) (bytes : List ℕ) (y m d : ℕ) (z : ℤ) → (is_date y m d && bytes_eq bytes (date_text y m d)) ≡ t → (if t then Some (day_number y m d) else None) ≡ Some z → fits_kind kind.Date (Date z) ≡ true
-in_range_if false bytes y m d z e h = absurd cc
-in_range_if true bytes y m d z e h =
+spelled_if : (t : Bool) (bytes : List ℕ) (y m d : ℕ) (z : ℤ) → (is_date y m d && bytes_eq bytes (date_text y m d)) ≡ t → (if t then Some (day_number y m d) else None) ≡ Some z → Spells kind.Date bytes (Date z)
+spelled_if false bytes y m d z e h = absurd cc
+spelled_if true bytes y m d z e h =
     let same : day_number y m d ≡ z = cc in
-    rw (← same) (day_spelled bytes y m d (first_so _ _ e) (second_so (is_date y m d) _ e)).fits
+    subst (λ (n : ℤ). Spells kind.Date bytes (Date n)) same (day_spelled bytes y m d (first_so _ _ e) (second_so (is_date y m d) _ e))
+
+-- a text with a day spells it
+literal_spelled : (bytes : List ℕ) (z : ℤ) → date_literal bytes ≡ Some z → Spells kind.Date bytes (Date z)
+unfolding date_literal
+literal_spelled bytes z e = spelled_if _ bytes (number_of (take 4 bytes)) (number_of (take 2 (drop 5 bytes))) (number_of (take 2 (drop 8 bytes))) z refl e
+
+pub dates_spelled : DatesAreSpelled
+dates_spelled bytes day = (literal_spelled bytes day, λ s. sym (spelled_day bytes (Date day) s))
 
 pub day_in_range : (bytes : List ℕ) (z : ℤ) → date_literal bytes ≡ Some z → fits_kind kind.Date (Date z) ≡ true
-unfolding date_literal
-day_in_range bytes z e = in_range_if _ bytes (number_of (take 4 bytes)) (number_of (take 2 (drop 5 bytes))) (number_of (take 2 (drop 8 bytes))) z refl e
+day_in_range bytes z e = (literal_spelled bytes z e).fits

@@ -16,13 +16,14 @@ use Rattle.expr_table.specs.declared.arg.EvalFault.{EvalFault}
 use Rattle.expr_table.specs.TableRows.{rows, shapes, has}
 use Rattle.expr_table.specs.Calls.{HasShape, HaveShapes, AreInRange, AreSmall}
 use Rattle.expr_table.specs.Meaning.{value_of}
+use Rattle.expr_table.specs.Scales.{result_scale}
 use Rattle.expr_table.proofs.Names.{has_is}
 use Rattle.expr_table.proofs.RowResults.{results_fit}
 use Rattle.ds_expr.specs.declared.node.Typing.{Typing}
 use Rattle.ds_expr.specs.declared.node.Applied.{Applied}
 use Rattle.ds_expr.specs.declared.node.Node.{Node}
 use Rattle.ds_expr.specs.declared.node.Use.{Use}
-use Rattle.ds_expr.specs.Typing.{typing_in, typing_of_use, agreed, are_small, use_of, shapes_of, scales_of, result_in}
+use Rattle.ds_expr.specs.Typing.{typing_in, typing_of_use, agreed, are_small, use_of, shapes_of, scales_of, second_literal, result_in}
 use Rattle.ds_expr.specs.Values.{value_in, applied}
 use Rattle.ds_expr.specs.Typed.{Fits}
 use Rattle.ds_expr.proofs.Sound.{use_is}
@@ -45,6 +46,8 @@ pub record RowIs (u : Applied) (ts : List Typing) (t : Typing) : Type 0 where
   pub shapes : shapes entry ≡ shapes_of ts
   pub result : t.shape ≡ entry.result
   pub small : AreSmall u.scales
+  pub args : AreSmall (scales_of ts)
+  pub scale : result_scale u.name (scales_of ts) (second_literal ts) ≡ Some t.scale
 
 -- the row at which a test passes first
 record Passes (p : Entry → Bool) (es : List Entry) (i : ℕ) : Type 0 where
@@ -82,6 +85,8 @@ row_by u ts t v s e r sc g =
       shapes = h.1;
       result = ap (λ (w : Typing). w.shape) (sym g) ∙ (k.shape ∙ ap result_in found);
       small = subst AreSmall (sym (sc ∙ k.scales)) (small_of ts s);
+      args = small_of ts s;
+      scale = k.scale ∙ ap (λ (w : Typing). Some w.scale) g;
     }
 
 row_agreed : (b : Bool) (u : Applied) (ts : List Typing) (t : Typing) (v : Use) → ((u.row == v.applied.row) && bytes_eq u.scales v.applied.scales) ≡ b → are_small ts ≡ true → use_of u.name ts ≡ Some v → (if b then Some v.typing else None) ≡ Some t → RowIs u ts t

@@ -224,12 +224,12 @@ call_by false fields row u nodes ts t v h g r e =
     let fit : AllFit ts w.all = subst (AllFit ts) (sym a.whole) a.fit in
     applied_fits u ts t w.all v r fit.shapes fit.range w.rest
 
-record ThenTyped (o : Option (List Typing)) (f : List Typing → Option Typing) (t : Typing) : Type 0 where
-  typings : List Typing
-  first : o ≡ Some typings
-  rest : f typings ≡ Some t
+pub record ThenTyped (o : Option (List Typing)) (f : List Typing → Option Typing) (t : Typing) : Type 0 where
+  pub typings : List Typing
+  pub first : o ≡ Some typings
+  pub rest : f typings ≡ Some t
 
-then_typed : (o : Option (List Typing)) (f : List Typing → Option Typing) (t : Typing) → then_some o f ≡ Some t → ThenTyped o f t
+pub then_typed : (o : Option (List Typing)) (f : List Typing → Option Typing) (t : Typing) → then_some o f ≡ Some t → ThenTyped o f t
 then_typed (Some ts) f t e = record { typings = ts; first = refl; rest = e }
 then_typed None f t e = absurd cc
 
@@ -256,7 +256,7 @@ gives_truth e = not (is_sparing e.name) || is_truth e.result
 all_give_truth : list_all gives_truth rows ≡ true
 all_give_truth = refl
 
-entry_at : (p : Entry → Bool) (es : List Entry) (i : ℕ) (e : Entry) → list_all p es ≡ true → slice_get es i ≡ Some e → p e ≡ true
+pub entry_at : (p : Entry → Bool) (es : List Entry) (i : ℕ) (e : Entry) → list_all p es ≡ true → slice_get es i ≡ Some e → p e ≡ true
 entry_at p [] i e h k = absurd cc
 entry_at p (d ∷ es) zero e h k = ap p (sym (some_is d e k)) ∙ first_so (p d) (list_all p es) h
 entry_at p (d ∷ es) (suc i) e h k = entry_at p es i e (second_so (p d) (list_all p es) h) k
@@ -320,12 +320,12 @@ all_joined_fit fields row (l ∷ links) s t x v h f g e =
     let fit = joined_fits l.0 s k.right k.both x w.value (value_in row l.1) k.row f (λ z m. h.0 k.right z k.first m) w.first in
     all_joined_fit fields row links k.both t w.value v h.1 fit k.rest w.rest
 
-record ThenOne (o : Option Typing) (f : Typing → Option Typing) (t : Typing) : Type 0 where
-  typing : Typing
-  first : o ≡ Some typing
-  rest : f typing ≡ Some t
+pub record ThenOne (o : Option Typing) (f : Typing → Option Typing) (t : Typing) : Type 0 where
+  pub typing : Typing
+  pub first : o ≡ Some typing
+  pub rest : f typing ≡ Some t
 
-then_one : (o : Option Typing) (f : Typing → Option Typing) (t : Typing) → then_some o f ≡ Some t → ThenOne o f t
+pub then_one : (o : Option Typing) (f : Typing → Option Typing) (t : Typing) → then_some o f ≡ Some t → ThenOne o f t
 then_one (Some s) f t e = record { typing = s; first = refl; rest = e }
 then_one None f t e = absurd cc
 

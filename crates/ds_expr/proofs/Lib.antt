@@ -4,6 +4,7 @@ pub mod Uses
 pub mod Trees
 pub mod Fits
 pub mod FitsTrees
+pub mod PlainScales
 pub mod Evals
 pub mod Assigns
 pub mod Sound

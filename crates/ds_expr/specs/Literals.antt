@@ -1,11 +1,12 @@
 -- What numbers and dates that stand in an expression are worth.
-use Rattle.std.specs.Prelude.{ℕ, ◌+◌, ◌-◌, ◌^◌, ℤ, pos, List, length, take, drop, position, Option, Some, None, Bool, not, ◌&&◌, ◌==◌, nat_lt, nat_le, if◌then◌else◌}
+use Rattle.std.specs.Prelude.{◌≡◌, ◌↔◌, ℕ, ◌+◌, ◌-◌, ◌^◌, ℤ, pos, List, length, take, drop, position, Option, Some, None, Bool, not, ◌&&◌, ◌==◌, nat_lt, nat_le, if◌then◌else◌}
 use Rattle.std.specs.List.{filter}
 use Rattle.std.specs.Str.{bytes_eq}
 use Rattle.ds_value.specs.declared.value.Value.{Value}
 use Rattle.ds_value.specs.declared.value.Value.TheVariants as value
 use Rattle.ds_value.specs.Calendar.{days_in_month, day_number}
-use Rattle.ds_value.specs.Spellings.{number_of, date_text}
+use Rattle.ds_value.specs.declared.kind.Kind.TheVariants as kind
+use Rattle.ds_value.specs.Spellings.{Spells, number_of, date_text}
 use Rattle.ds_expr.specs.declared.literal.Number.{Number}
 
 -- how many digits stand behind a point
@@ -39,6 +40,10 @@ date_if bytes year month day = if is_date year month day && bytes_eq bytes (date
 -- the day of a date that is written YYYY-MM-DD
 unfoldable pub date_literal : List ℕ → Option ℤ
 date_literal bytes = date_if bytes (number_of (take 4 bytes)) (number_of (take 2 (drop 5 bytes))) (number_of (take 2 (drop 8 bytes)))
+
+-- a text has a day exactly where it spells it as a value of a date
+abbrev pub DatesAreSpelled : Type 0
+DatesAreSpelled = (bytes : List ℕ) (day : ℤ) → (date_literal bytes ≡ Some day) ↔ Spells kind.Date bytes (value.Date day)
 
 -- the day that a value is
 abbrev pub day_in : Value → Option ℤ

@@ -1,6 +1,6 @@
 //! Typed expressions, and their copies.
 
-ghost use Rattle.std.specs.Prelude.{◌≡◌, IfOk};
+ghost use Rattle.std.specs.Prelude.{◌≡◌, ◌≤◌, IfOk};
 ghost use Rattle.ds_expr.specs.Typed.{IsTyped};
 
 use crate::node::{Applied, Node, Typing};
@@ -34,7 +34,7 @@ impl Model for Typed {
 }
 
 impl Typed {
-    pub fn new(schema: Schema, node: Node, typing: Typing) -> Typed
+    pub(crate) fn new(schema: Schema, node: Node, typing: Typing) -> Typed
         requires { IsTyped schema node typing }
         ensures { result ≡ record { fields = schema; node = node; typing = typing } }
     {
@@ -142,7 +142,11 @@ pub fn copy_typed(alloc: Global, typed: &Typed) -> Result<Typed, NoMemory>
 
 /// The shape and the scale of the result.
 pub fn shape_of(typed: &Typed) -> (Shape, u8)
-    ensures { result ≡ (typed.now.typing.shape, typed.now.typing.scale) }
+    ensures value { result ≡ (typed.now.typing.shape, typed.now.typing.scale) }
+    ensures zero { (result.0 ≡ Shape.Num → ⊥) → result.1 ≡ 0 }
+    ensures small { result.1 ≤ 38 }
 {
+    // That a column's scale is small is known of the schema's fields.
+    let _fields = typed.schema.as_slice();
     (typed.typing.shape, typed.typing.scale)
 }
