@@ -28,7 +28,7 @@ use Rattle.flow_graph.specs.Runs.{arranged_if}
 use Rattle.list_run.specs.Dealt.{dealt}
 use Rattle.list_run.specs.Made.{made}
 use Rattle.list_run.specs.Routed.{routed, delivered}
-use Rattle.list_run.proofs.Runs.{run_by_run_is}
+use Rattle.op_order.proofs.Runs.{run_by_run_is}
 
 -- each row of some lists
 abbrev pub Each : (Row → Type 0) → List (List Row) → Type 0

@@ -3,3 +3,4 @@ pub mod Means
 pub mod MarkLaws
 pub mod SortLaws
 pub mod Examples
+pub mod Runs

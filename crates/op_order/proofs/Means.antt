@@ -1,7 +1,7 @@
 -- On sorted rows, what remdup gives is one row for each key value.
-use Rattle.std.proofs.Common.{◌≡◌, Bool, true, false, refl, sym, ap, ◌∙◌, List, [], ◌∷◌, ◌++◌, map}
+use Rattle.std.proofs.Common.{◌≡◌, ℕ, Bool, true, false, refl, sym, ap, ◌∙◌, List, [], ◌∷◌, ◌++◌, map}
 use Rattle.std.specs.List.{flat_map}
-use Rattle.streams.specs.Streams.{Out, sends}
+use Rattle.streams.specs.Streams.{Out, sends, Gives}
 use Rattle.streams.specs.Operators.{first_outs, last_outs}
 use Rattle.streams.specs.Lists.{runs_of}
 use Rattle.streams.proofs.OperatorLaws.{operators_give}
@@ -16,7 +16,7 @@ use Rattle.op_base.proofs.Orders.{row_total}
 use Rattle.op_base.proofs.KeyLaws.{by_key_ranks}
 use Rattle.op_base.proofs.RunLaws.{by_runs}
 use Rattle.op_base.proofs.SortedInputs.{by_key_arranged}
-use Rattle.op_order.specs.Ordered.{same_key}
+use Rattle.op_order.specs.Ordered.{same_key, remdup_stream}
 use Rattle.op_order.specs.Laws.{TsortArranges, RemdupKeepsOne, RemdupSeesNoSort}
 
 pub tsort-arranges : TsortArranges
@@ -39,11 +39,13 @@ last_is (r ∷ (s ∷ run)) = last_is (s ∷ run)
 one_each : (keys : List Key) (last : Bool) (rows : List Row) → IsArranged (row_cmp keys) rows → flat_map (one_row last) (runs_of (same_key keys) rows) ≡ by_key keys (one_row last) rows
 one_each keys last rows up = by_runs (row_total keys) (one_row last) rows up ∙ sym (by_key_ranks keys (one_row last) rows)
 
+-- of any list, one row of each run
+pub remdup_outs : (keys : List Key) (last : Bool) (lists : ℕ → List Row) (outs : List (Out Row Fault)) → Gives (remdup_stream keys last) lists outs → outs ≡ map (sends 0) (flat_map (one_row last) (runs_of (same_key keys) (lists 0)))
+remdup_outs keys false lists outs g = ((operators_give Row Fault).remdup (same_key keys)).1 lists outs g ∙ sent_rows (one_row false) first_outs first_is (runs_of (same_key keys) (lists 0))
+remdup_outs keys true lists outs g = ((operators_give Row Fault).run (same_key keys) last_outs).1 lists outs g ∙ sent_rows (one_row true) last_outs last_is (runs_of (same_key keys) (lists 0))
+
 pub remdup-keeps-one : RemdupKeepsOne
-remdup-keeps-one keys false lists outs up g =
-    ((operators_give Row Fault).remdup (same_key keys)).1 lists outs g ∙ sent_rows (one_row false) first_outs first_is (runs_of (same_key keys) (lists 0)) ∙ ap (map (sends 0)) (one_each keys false (lists 0) up)
-remdup-keeps-one keys true lists outs up g =
-    ((operators_give Row Fault).run (same_key keys) last_outs).1 lists outs g ∙ sent_rows (one_row true) last_outs last_is (runs_of (same_key keys) (lists 0)) ∙ ap (map (sends 0)) (one_each keys true (lists 0) up)
+remdup-keeps-one keys last lists outs up g = remdup_outs keys last lists outs g ∙ ap (map (sends 0)) (one_each keys last (lists 0) up)
 
 pub remdup-sees-no-sort : RemdupSeesNoSort
 remdup-sees-no-sort keys last rows = by_key_arranged keys (one_row last) rows

@@ -1,14 +1,16 @@
 //! What the streams of this crate give of whole lists.
-ghost use Rattle.op_order.specs.Laws.{TsortArranges, RemdupKeepsOne, RemdupSeesNoSort};
+ghost use Rattle.op_order.specs.Laws.{TsortArranges, RemdupKeepsOne, RemdupRuns, RemdupSeesNoSort};
 
 /// What tsort gives is what sorting means.
 pub fn tsort_arranges()
     ensures { TsortArranges }
 {}
 
-/// On rows in the order of its keys, what remdup gives is what it means.
+/// On rows in the order of its keys, what remdup gives is what it means; of any rows it is that run
+/// by run.
 pub fn remdup_keeps_one()
-    ensures { RemdupKeepsOne }
+    ensures ordered { RemdupKeepsOne }
+    ensures runs { RemdupRuns }
 {}
 
 /// What remdup means is unchanged when its rows are sorted by its keys.
