@@ -18,7 +18,7 @@ use Rattle.flow_graph.specs.Charts.{Chart, link_at, links_into, links_from, into
 use Rattle.flow_graph.specs.FlowShape.{IsShape, ForwardOrder}
 use Rattle.op_base.specs.Columns.{Lies}
 use Rattle.flow_plan.specs.Data.{Datum, datum_cmp}
-use Rattle.flow_plan.specs.Planned.{working, sorting, part_at, link, behind, file, way_at, op_count, link_count, sort_op, behind_way, file_way, has_sort, last_way, sorts_into, with_sorts, sorter, gather_by, part_degree, part_stream, part_input, part_outs, wire_by, plan_of, ports_for, ChoicesFit, StreamsFit, PlansAreWired}
+use Rattle.flow_plan.specs.Planned.{working, sorting, plan_operator_at, link, behind, file, plan_link_at, op_count, link_count, sort_operator, link_behind_sort, file_link, has_sort, last_link, sorts_into, with_sorts, sorter, gather_by, plan_degree, plan_stream, plan_input, plan_outs, plan_wire, plan_of, ports_for, ChoicesFit, StreamsFit, PlansAreWired}
 use Rattle.flow_plan.proofs.Members.{in_filter, filter_in, place_of, at_place, Apart, filter_apart, order_has, order_apart, order_below, into_in, from_in, in_into, in_from, into_apart}
 use Rattle.flow_plan.proofs.Following.{numbered_is}
 
@@ -57,11 +57,11 @@ flat_in f (z ∷ xs) x y (inl e) i = in_front y (f z) (flat_map f xs) (subst (λ
 flat_in f (z ∷ xs) x y (inr h) i = in_back y (f z) (flat_map f xs) (flat_in f xs x y h i)
 
 -- numbers of the plan
-pub part_working : (n o : ℕ) → o < n → part_at n o ≡ working o
-part_working n o l = ap (λ b. cond b (working o) (sorting (o - n))) (lt-ltb _ _ l)
+pub at_working : (n o : ℕ) → o < n → plan_operator_at n o ≡ working o
+at_working n o l = ap (λ b. cond b (working o) (sorting (o - n))) (lt-ltb _ _ l)
 
-pub part_sorting : (n l : ℕ) → part_at n (n + l) ≡ sorting l
-part_sorting n l = ap (λ b. cond b (working (n + l)) (sorting (n + l - n))) (le-ltb _ _ high) ∙ ap sorting back
+pub at_sorting : (n l : ℕ) → plan_operator_at n (n + l) ≡ sorting l
+at_sorting n l = ap (λ b. cond b (working (n + l)) (sorting (n + l - n))) (le-ltb _ _ high) ∙ ap sorting back
   where
     high : n ≤ n + l
     high = omega arith
@@ -69,11 +69,11 @@ part_sorting n l = ap (λ b. cond b (working (n + l)) (sorting (n + l - n))) (le
     back : n + l - n ≡ l
     back = omega arith
 
-pub way_link : (m l : ℕ) → l < m → way_at m l ≡ link l
-way_link m l h = ap (λ b. cond b (link l) (cond (nat_lt l (m + m)) (behind (l - m)) (file (l - (m + m))))) (lt-ltb _ _ h)
+pub at_flow_link : (m l : ℕ) → l < m → plan_link_at m l ≡ link l
+at_flow_link m l h = ap (λ b. cond b (link l) (cond (nat_lt l (m + m)) (behind (l - m)) (file (l - (m + m))))) (lt-ltb _ _ h)
 
-pub way_behind : (m l : ℕ) → l < m → way_at m (m + l) ≡ behind l
-way_behind m l h =
+pub at_link_behind : (m l : ℕ) → l < m → plan_link_at m (m + l) ≡ behind l
+at_link_behind m l h =
     ap (λ b. cond b (link (m + l)) (cond (nat_lt (m + l) (m + m)) (behind (m + l - m)) (file (m + l - (m + m))))) (le-ltb _ _ high)
     ∙ ap (λ b. cond b (behind (m + l - m)) (file (m + l - (m + m)))) (lt-ltb _ _ low) ∙ ap behind back
   where
@@ -86,8 +86,8 @@ way_behind m l h =
     back : m + l - m ≡ l
     back = omega arith
 
-pub way_file : (m o : ℕ) → way_at m (m + m + o) ≡ file o
-way_file m o =
+pub at_file_link : (m o : ℕ) → plan_link_at m (m + m + o) ≡ file o
+at_file_link m o =
     ap (λ b. cond b (link (m + m + o)) (cond (nat_lt (m + m + o) (m + m)) (behind (m + m + o - m)) (file (m + m + o - (m + m))))) (le-ltb _ _ high)
     ∙ ap (λ b. cond b (behind (m + m + o - m)) (file (m + m + o - (m + m)))) (le-ltb _ _ higher) ∙ ap file back
   where
@@ -130,13 +130,13 @@ module _ (c : Chart) (choice : ℕ → Choice) (degree : ℕ → ℕ) (stream : 
   -- which operator of the plan a number is
   pub data AnOp (x : ℕ) : Type 0 where
     is_working : (o : ℕ) → IsIn o c.order → x ≡ o → AnOp x
-    is_sorting : (l : ℕ) → l < link_count c → has_sort choice l ≡ true → x ≡ sort_op c l → AnOp x
+    is_sorting : (l : ℕ) → l < link_count c → has_sort choice l ≡ true → x ≡ sort_operator c l → AnOp x
 
   pub op_in : (x : ℕ) → IsIn x (plan_of c choice degree stream).order → AnOp x
   op_in x h =
       let r = in_flat (with_sorts c choice) c.order x h in
       elim (in_either x (sorts_into c choice r.0) (r.0 ∷ []) r.2) [
-        | inl i ↦ (let s = in_mapped (sort_op c) (filter (has_sort choice) (links_into c r.0)) x i in
+        | inl i ↦ (let s = in_mapped (sort_operator c) (filter (has_sort choice) (links_into c r.0)) x i in
             let f = filter_in (has_sort choice) (links_into c r.0) s.0 s.1 in is_sorting s.0 (in_into c r.0 s.0 f.0).0 f.1 s.2)
         | inr i ↦ is_working r.0 r.1 (one x r.0 i)
       ]
@@ -148,9 +148,9 @@ module _ (c : Chart) (choice : ℕ → Choice) (degree : ℕ → ℕ) (stream : 
   pub working_in : (o : ℕ) → IsIn o c.order → IsIn o (plan_of c choice degree stream).order
   working_in o i = flat_in (with_sorts c choice) c.order o o i (in_back o (sorts_into c choice o) (o ∷ []) (inl refl))
 
-  pub sorting_in : (l : ℕ) → l < link_count c → has_sort choice l ≡ true → IsIn (link_at c l).to c.order → IsIn (sort_op c l) (plan_of c choice degree stream).order
-  sorting_in l h s i = flat_in (with_sorts c choice) c.order (link_at c l).to (sort_op c l) i
-      (in_front (sort_op c l) (sorts_into c choice (link_at c l).to) ((link_at c l).to ∷ []) (mapped_in (sort_op c) (filter (has_sort choice) (links_into c (link_at c l).to)) l (in_filter (has_sort choice) (links_into c (link_at c l).to) l (into_in c (link_at c l).to l h refl) s)))
+  pub sorting_in : (l : ℕ) → l < link_count c → has_sort choice l ≡ true → IsIn (link_at c l).to c.order → IsIn (sort_operator c l) (plan_of c choice degree stream).order
+  sorting_in l h s i = flat_in (with_sorts c choice) c.order (link_at c l).to (sort_operator c l) i
+      (in_front (sort_operator c l) (sorts_into c choice (link_at c l).to) ((link_at c l).to ∷ []) (mapped_in (sort_operator c) (filter (has_sort choice) (links_into c (link_at c l).to)) l (in_filter (has_sort choice) (links_into c (link_at c l).to) l (into_in c (link_at c l).to l h refl) s)))
 
   module _ (shape : IsShape c) (fits : ChoicesFit c choice degree) (streams : StreamsFit c stream) where
     pub below : (o : ℕ) → IsIn o c.order → o < op_count c
@@ -161,37 +161,37 @@ module _ (c : Chart) (choice : ℕ → Choice) (degree : ℕ → ℕ) (stream : 
 
     -- what each number is
     pub degree_working : (o : ℕ) → o < op_count c → (plan_of c choice degree stream).degree o ≡ degree o
-    degree_working o h = ap (part_degree c degree) (part_working (op_count c) o h)
+    degree_working o h = ap (plan_degree c degree) (at_working (op_count c) o h)
 
-    pub degree_sorting : (l : ℕ) → (plan_of c choice degree stream).degree (sort_op c l) ≡ degree (link_at c l).to
-    degree_sorting l = ap (part_degree c degree) (part_sorting (op_count c) l)
+    pub degree_sorting : (l : ℕ) → (plan_of c choice degree stream).degree (sort_operator c l) ≡ degree (link_at c l).to
+    degree_sorting l = ap (plan_degree c degree) (at_sorting (op_count c) l)
 
     pub stream_working : (o : ℕ) → o < op_count c → (plan_of c choice degree stream).stream o ≡ stream o
-    stream_working o h = ap (part_stream choice stream) (part_working (op_count c) o h)
+    stream_working o h = ap (plan_stream choice stream) (at_working (op_count c) o h)
 
-    pub stream_sorting : (l : ℕ) → (plan_of c choice degree stream).stream (sort_op c l) ≡ sorter (choice l).sort
-    stream_sorting l = ap (part_stream choice stream) (part_sorting (op_count c) l)
+    pub stream_sorting : (l : ℕ) → (plan_of c choice degree stream).stream (sort_operator c l) ≡ sorter (choice l).sort
+    stream_sorting l = ap (plan_stream choice stream) (at_sorting (op_count c) l)
 
-    pub input_working : (o i : ℕ) → o < op_count c → (plan_of c choice degree stream).input o i ≡ part_input c choice (working o) i
-    input_working o i h = ap (λ p. part_input c choice p i) (part_working (op_count c) o h)
+    pub input_working : (o i : ℕ) → o < op_count c → (plan_of c choice degree stream).input o i ≡ plan_input c choice (working o) i
+    input_working o i h = ap (λ p. plan_input c choice p i) (at_working (op_count c) o h)
 
-    pub input_sorting : (l i : ℕ) → (plan_of c choice degree stream).input (sort_op c l) i ≡ l
-    input_sorting l i = ap (λ p. part_input c choice p i) (part_sorting (op_count c) l)
+    pub input_sorting : (l i : ℕ) → (plan_of c choice degree stream).input (sort_operator c l) i ≡ l
+    input_sorting l i = ap (λ p. plan_input c choice p i) (at_sorting (op_count c) l)
 
     pub outs_working : (o : ℕ) → o < op_count c → (plan_of c choice degree stream).outs o ≡ links_from c o
-    outs_working o h = ap (part_outs c) (part_working (op_count c) o h)
+    outs_working o h = ap (plan_outs c) (at_working (op_count c) o h)
 
-    pub outs_sorting : (l : ℕ) → (plan_of c choice degree stream).outs (sort_op c l) ≡ behind_way c l ∷ []
-    outs_sorting l = ap (part_outs c) (part_sorting (op_count c) l)
+    pub outs_sorting : (l : ℕ) → (plan_of c choice degree stream).outs (sort_operator c l) ≡ link_behind_sort c l ∷ []
+    outs_sorting l = ap (plan_outs c) (at_sorting (op_count c) l)
 
-    pub wire_link : (l : ℕ) → l < link_count c → (plan_of c choice degree stream).wire l ≡ wire_by c choice degree (link l)
-    wire_link l h = ap (wire_by c choice degree) (way_link (link_count c) l h)
+    pub wire_link : (l : ℕ) → l < link_count c → (plan_of c choice degree stream).wire l ≡ plan_wire c choice degree (link l)
+    wire_link l h = ap (plan_wire c choice degree) (at_flow_link (link_count c) l h)
 
-    pub wire_behind : (l : ℕ) → l < link_count c → (plan_of c choice degree stream).wire (behind_way c l) ≡ wire_by c choice degree (behind l)
-    wire_behind l h = ap (wire_by c choice degree) (way_behind (link_count c) l h)
+    pub wire_behind : (l : ℕ) → l < link_count c → (plan_of c choice degree stream).wire (link_behind_sort c l) ≡ plan_wire c choice degree (behind l)
+    wire_behind l h = ap (plan_wire c choice degree) (at_link_behind (link_count c) l h)
 
-    pub wire_file : (o : ℕ) → (plan_of c choice degree stream).wire (file_way c o) ≡ wire_by c choice degree (file o)
-    wire_file o = ap (wire_by c choice degree) (way_file (link_count c) o)
+    pub wire_file : (o : ℕ) → (plan_of c choice degree stream).wire (file_link c o) ≡ plan_wire c choice degree (file o)
+    wire_file o = ap (plan_wire c choice degree) (at_file_link (link_count c) o)
 
     -- a link into an operator, at its port
     pub port_of : (o l : ℕ) → o < op_count c → IsIn l (links_into c o) → ((link_at c l).port < length (links_into c o)) × (get_or (links_into c o) (link_at c l).port 0 ≡ l)
@@ -207,13 +207,13 @@ module _ (c : Chart) (choice : ℕ → Choice) (degree : ℕ → ℕ) (stream : 
     -- which way leads to a port
     pub data AtPort (o i : ℕ) : Type 0 where
       at_link : (l : ℕ) → IsIn l (links_into c o) → (link_at c l).port ≡ i → has_sort choice l ≡ false → (plan_of c choice degree stream).input o i ≡ l → AtPort o i
-      at_behind : (l : ℕ) → IsIn l (links_into c o) → (link_at c l).port ≡ i → has_sort choice l ≡ true → (plan_of c choice degree stream).input o i ≡ behind_way c l → AtPort o i
-      at_file : links_into c o ≡ [] → i ≡ 0 → (plan_of c choice degree stream).input o i ≡ file_way c o → AtPort o i
+      at_behind : (l : ℕ) → IsIn l (links_into c o) → (link_at c l).port ≡ i → has_sort choice l ≡ true → (plan_of c choice degree stream).input o i ≡ link_behind_sort c l → AtPort o i
+      at_file : links_into c o ≡ [] → i ≡ 0 → (plan_of c choice degree stream).input o i ≡ file_link c o → AtPort o i
 
-    pub input_at : (o l : ℕ) → o < op_count c → IsIn l (links_into c o) → (plan_of c choice degree stream).input o (link_at c l).port ≡ last_way c choice l
+    pub input_at : (o l : ℕ) → o < op_count c → IsIn l (links_into c o) → (plan_of c choice degree stream).input o (link_at c l).port ≡ last_link c choice l
     input_at o l h i =
         let p = port_of o l h i in
-        input_working o (link_at c l).port h ∙ ap (λ b. cond b (last_way c choice (get_or (links_into c o) (link_at c l).port 0)) (file_way c o)) (lt-ltb _ _ p.0) ∙ ap (last_way c choice) p.1
+        input_working o (link_at c l).port h ∙ ap (λ b. cond b (last_link c choice (get_or (links_into c o) (link_at c l).port 0)) (file_link c o)) (lt-ltb _ _ p.0) ∙ ap (last_link c choice) p.1
 
     pub port_at : (o i : ℕ) → o < op_count c → i < ((plan_of c choice degree stream).stream o).ports → AtPort o i
     port_at o i h lt = go (nat_lt i (length (links_into c o))) refl
@@ -226,8 +226,8 @@ module _ (c : Chart) (choice : ℕ → Choice) (degree : ℕ → ℕ) (stream : 
         none (x ∷ ls) l m = absurd (omega (arith, l, m))
 
         sorted : (l : ℕ) → IsIn l (links_into c o) → (link_at c l).port ≡ i → (b : Bool) → has_sort choice l ≡ b → AtPort o i
-        sorted l j p true e = at_behind l j p e (subst (λ k. plan.input o k ≡ behind_way c l) p (input_at o l h j ∙ ap (λ b. cond b (behind_way c l) l) e))
-        sorted l j p false e = at_link l j p e (subst (λ k. plan.input o k ≡ l) p (input_at o l h j ∙ ap (λ b. cond b (behind_way c l) l) e))
+        sorted l j p true e = at_behind l j p e (subst (λ k. plan.input o k ≡ link_behind_sort c l) p (input_at o l h j ∙ ap (λ b. cond b (link_behind_sort c l) l) e))
+        sorted l j p false e = at_link l j p e (subst (λ k. plan.input o k ≡ l) p (input_at o l h j ∙ ap (λ b. cond b (link_behind_sort c l) l) e))
 
         go : (b : Bool) → nat_lt i (length (links_into c o)) ≡ b → AtPort o i
         go true e =
@@ -235,7 +235,7 @@ module _ (c : Chart) (choice : ℕ → Choice) (degree : ℕ → ℕ) (stream : 
             sorted l (at_place (links_into c o) i (ltb-true _ _ e)) ((shape.ops o h).ports i (ltb-true _ _ e)) (has_sort choice l) refl
         go false e =
             let n = none (links_into c o) (subst (λ k. i < k) ports lt) (ltb-false _ _ e) in
-            at_file n.0 n.1 (input_working o i h ∙ ap (λ b. cond b (last_way c choice (get_or (links_into c o) i 0)) (file_way c o)) e)
+            at_file n.0 n.1 (input_working o i h ∙ ap (λ b. cond b (last_link c choice (get_or (links_into c o) i 0)) (file_link c o)) e)
 
     -- The parts of being wired.
     degrees : (x : ℕ) → IsIn x plan.order → 0 < plan.degree x
@@ -265,7 +265,7 @@ module _ (c : Chart) (choice : ℕ → Choice) (degree : ℕ → ℕ) (stream : 
             at (at_link l k p s w) =
                 let b = in_into c o l k in
                 subst (λ z. Enters o i z) (sym w) (subst (λ (z : Wire Datum Fault). (z.into ≡ o) × (z.port ≡ i) × IsGathering z.gather) (sym (wire_link l b.0)) (
-                  ap (λ t. cond t (sort_op c l) (link_at c l).to) s ∙ b.1,
+                  ap (λ t. cond t (sort_operator c l) (link_at c l).to) s ∙ b.1,
                   ap (λ t. cond t 0 (link_at c l).port) s ∙ p,
                   gathers (into_seq c l) (choice l).method,
                 ))
@@ -275,8 +275,8 @@ module _ (c : Chart) (choice : ℕ → Choice) (degree : ℕ → ℕ) (stream : 
             at (at_file n z w) = subst (λ y. Enters o i y) (sym w) (subst (λ (y : Wire Datum Fault). (y.into ≡ o) × (y.port ≡ i) × IsGathering y.gather) (sym (wire_file o)) (refl, sym z, tt))
         go (is_sorting l h s e) lt =
             let one : i < 1 = subst (λ n. i < n) (ap (λ y. (plan.stream y).ports) e ∙ ap (λ (t : Stream Datum Fault). t.ports) (stream_sorting l) ∙ sorter_ports (choice l).sort) lt in
-            subst (λ y. Enters y i (plan.input y i)) (sym e) (subst (λ z. Enters (sort_op c l) i z) (sym (input_sorting l i)) (subst (λ (z : Wire Datum Fault). (z.into ≡ sort_op c l) × (z.port ≡ i) × IsGathering z.gather) (sym (wire_link l h)) (
-              ap (λ t. cond t (sort_op c l) (link_at c l).to) s,
+            subst (λ y. Enters y i (plan.input y i)) (sym e) (subst (λ z. Enters (sort_operator c l) i z) (sym (input_sorting l i)) (subst (λ (z : Wire Datum Fault). (z.into ≡ sort_operator c l) × (z.port ≡ i) × IsGathering z.gather) (sym (wire_link l h)) (
+              ap (λ t. cond t (sort_operator c l) (link_at c l).to) s,
               ap (λ t. cond t 0 (link_at c l).port) s ∙ zero_is i one,
               gathers (into_seq c l) (choice l).method,
             )))
@@ -292,8 +292,8 @@ module _ (c : Chart) (choice : ℕ → Choice) (degree : ℕ → ℕ) (stream : 
     leaves_by x k h = record { from = h.0; no_file = h.1; into = h.2; port = h.3; input = h.4; straight = h.5 }
 
     pub out_link : (l : ℕ) → l < link_count c → (b : Bool) → has_sort choice l ≡ b →
-        IsIn (cond b (sort_op c l) (link_at c l).to) plan.order × (cond b 0 (link_at c l).port < (plan.stream (cond b (sort_op c l) (link_at c l).to)).ports)
-        × (plan.input (cond b (sort_op c l) (link_at c l).to) (cond b 0 (link_at c l).port) ≡ l) × (plan.degree (cond b (sort_op c l) (link_at c l).to) ≡ degree (link_at c l).to)
+        IsIn (cond b (sort_operator c l) (link_at c l).to) plan.order × (cond b 0 (link_at c l).port < (plan.stream (cond b (sort_operator c l) (link_at c l).to)).ports)
+        × (plan.input (cond b (sort_operator c l) (link_at c l).to) (cond b 0 (link_at c l).port) ≡ l) × (plan.degree (cond b (sort_operator c l) (link_at c l).to) ≡ degree (link_at c l).to)
     out_link l h true e = (
       sorting_in l h e (to_in l h),
       subst (λ n. 0 < n) (sym (ap (λ (t : Stream Datum Fault). t.ports) (stream_sorting l) ∙ sorter_ports (choice l).sort)) (omega arith),
@@ -305,7 +305,7 @@ module _ (c : Chart) (choice : ℕ → Choice) (degree : ℕ → ℕ) (stream : 
         let i = into_in c (link_at c l).to l h refl in (
           working_in (link_at c l).to (to_in l h),
           ports_working (link_at c l).to (link_at c l).port t (port_of (link_at c l).to l t i).0,
-          input_at (link_at c l).to l t i ∙ ap (λ b. cond b (behind_way c l) l) e,
+          input_at (link_at c l).to l t i ∙ ap (λ b. cond b (link_behind_sort c l) l) e,
           degree_working (link_at c l).to t,
         )
 
@@ -327,16 +327,16 @@ module _ (c : Chart) (choice : ℕ → Choice) (degree : ℕ → ℕ) (stream : 
         go (is_sorting l h s e) out =
             let t = (shape.links l h).to in
             let i = into_in c (link_at c l).to l h refl in
-            leaves_by x k (subst (λ z. Out x z (plan.wire z)) (sym (one k (subst (λ ls. IsIn k ls) (ap plan.outs e ∙ outs_sorting l) out))) (subst (Out x (behind_way c l)) (sym (wire_behind l h)) (
+            leaves_by x k (subst (λ z. Out x z (plan.wire z)) (sym (one k (subst (λ ls. IsIn k ls) (ap plan.outs e ∙ outs_sorting l) out))) (subst (Out x (link_behind_sort c l)) (sym (wire_behind l h)) (
               sym e,
               refl,
               working_in (link_at c l).to (to_in l h),
               ports_working (link_at c l).to (link_at c l).port t (port_of (link_at c l).to l t i).0,
-              input_at (link_at c l).to l t i ∙ ap (λ b. cond b (behind_way c l) l) s,
+              input_at (link_at c l).to l t i ∙ ap (λ b. cond b (link_behind_sort c l) l) s,
               λ _. ap plan.degree e ∙ degree_sorting l ∙ sym (degree_working (link_at c l).to t),
             )))
           where
-            one : (k : ℕ) → IsIn k (behind_way c l ∷ []) → k ≡ behind_way c l
+            one : (k : ℕ) → IsIn k (link_behind_sort c l ∷ []) → k ≡ link_behind_sort c l
             one k (inl e) = e
             one k (inr i) = absurd i
 
@@ -370,29 +370,29 @@ module _ (c : Chart) (choice : ℕ → Choice) (degree : ℕ → ℕ) (stream : 
     link_before seen l h i = subst (λ (w : Wire Datum Fault). (w.file ≡ true) ⊎ (IsIn w.from seen × IsIn l (plan.outs w.from))) (sym (wire_link l h))
         (inr (i, subst (λ ls. IsIn l ls) (sym (outs_working (link_at c l).from (shape.links l h).from)) (from_in c (link_at c l).from l h refl)))
 
-    behind_before : (seen : List ℕ) (l : ℕ) → l < link_count c → IsIn (sort_op c l) seen → Before seen (behind_way c l)
-    behind_before seen l h i = subst (λ (w : Wire Datum Fault). (w.file ≡ true) ⊎ (IsIn w.from seen × IsIn (behind_way c l) (plan.outs w.from))) (sym (wire_behind l h))
-        (inr (i, subst (λ ls. IsIn (behind_way c l) ls) (sym (outs_sorting l)) (inl refl)))
+    behind_before : (seen : List ℕ) (l : ℕ) → l < link_count c → IsIn (sort_operator c l) seen → Before seen (link_behind_sort c l)
+    behind_before seen l h i = subst (λ (w : Wire Datum Fault). (w.file ≡ true) ⊎ (IsIn w.from seen × IsIn (link_behind_sort c l) (plan.outs w.from))) (sym (wire_behind l h))
+        (inr (i, subst (λ ls. IsIn (link_behind_sort c l) ls) (sym (outs_sorting l)) (inl refl)))
 
-    file_before : (seen : List ℕ) (o : ℕ) → Before seen (file_way c o)
-    file_before seen o = subst (λ (w : Wire Datum Fault). (w.file ≡ true) ⊎ (IsIn w.from seen × IsIn (file_way c o) (plan.outs w.from))) (sym (wire_file o)) (inl refl)
+    file_before : (seen : List ℕ) (o : ℕ) → Before seen (file_link c o)
+    file_before seen o = subst (λ (w : Wire Datum Fault). (w.file ≡ true) ⊎ (IsIn w.from seen × IsIn (file_link c o) (plan.outs w.from))) (sym (wire_file o)) (inl refl)
 
     -- the sorts before an operator, each behind the producer of its link
-    sorts_forward : (ls seen : List ℕ) → Apart ls → ((l : ℕ) → IsIn l ls → (l < link_count c) × IsIn (link_at c l).from seen × (IsIn (sort_op c l) seen → ⊥)) → GoesForward plan seen (map (sort_op c) ls)
+    sorts_forward : (ls seen : List ℕ) → Apart ls → ((l : ℕ) → IsIn l ls → (l < link_count c) × IsIn (link_at c l).from seen × (IsIn (sort_operator c l) seen → ⊥)) → GoesForward plan seen (map (sort_operator c) ls)
     sorts_forward [] seen apart h = tt
     sorts_forward (l ∷ ls) seen apart h = (
       λ i lt. subst (λ k. Before seen k) (sym (input_sorting l i)) (link_before seen l (h l (inl refl)).0 (h l (inl refl)).1),
       (h l (inl refl)).2,
-      sorts_forward ls (sort_op c l ∷ seen) apart.1 (λ k i. ((h k (inr i)).0, inr (h k (inr i)).1, λ j. elim j [ inl e ↦ apart.0 (subst (λ z. IsIn z ls) (cancel k l e) i) | inr old ↦ (h k (inr i)).2 old ])),
+      sorts_forward ls (sort_operator c l ∷ seen) apart.1 (λ k i. ((h k (inr i)).0, inr (h k (inr i)).1, λ j. elim j [ inl e ↦ apart.0 (subst (λ z. IsIn z ls) (cancel k l e) i) | inr old ↦ (h k (inr i)).2 old ])),
     )
       where
-        cancel : (k l : ℕ) → sort_op c k ≡ sort_op c l → k ≡ l
+        cancel : (k l : ℕ) → sort_operator c k ≡ sort_operator c l → k ≡ l
         cancel k l e = omega (arith, e)
 
     -- what was seen: of the operators that were done, and their sorts
     pub record Seen (finished seen : List ℕ) : Type 0 where
       pub has : (o : ℕ) → IsIn o finished → IsIn o seen
-      pub known : (x : ℕ) → IsIn x seen → (IsIn x finished × (x < op_count c)) ⊎ ((l : ℕ) × (x ≡ sort_op c l) × IsIn (link_at c l).to finished)
+      pub known : (x : ℕ) → IsIn x seen → (IsIn x finished × (x < op_count c)) ⊎ ((l : ℕ) × (x ≡ sort_operator c l) × IsIn (link_at c l).to finished)
 
     goes : (order finished ways seen : List ℕ) → Apart order → ((o : ℕ) → IsIn o order → (o < op_count c) × (IsIn o finished → ⊥)) → ((l : ℕ) → IsIn l ways → IsIn (link_at c l).from finished) → Seen finished seen → ForwardOrder c ways order →
         GoesForward plan seen (flat_map (with_sorts c choice) order)
@@ -418,44 +418,44 @@ module _ (c : Chart) (choice : ℕ → Choice) (degree : ℕ → ℕ) (stream : 
         from_seen : (l : ℕ) → IsIn l (links_into c o) → IsIn (link_at c l).from seen
         from_seen l i = s.has (link_at c l).from (from l (lies_at (links_into c o) f.0 l i))
 
-        sort_new : (l : ℕ) → IsIn l (links_into c o) → IsIn (sort_op c l) seen → ⊥
-        sort_new l i j = elim (s.known (sort_op c l) j) [
+        sort_new : (l : ℕ) → IsIn l (links_into c o) → IsIn (sort_operator c l) seen → ⊥
+        sort_new l i j = elim (s.known (sort_operator c l) j) [
           | inl k ↦ (let b = k.1 in absurd (omega (arith, b)))
           | inr k ↦ (let same : l ≡ k.0 = cancel l k.0 k.1 in (new o (inl refl)).1 (subst (λ z. IsIn z finished) (in_into c o l i).1 (subst (λ z. IsIn (link_at c z).to finished) (sym same) k.2)))
         ]
           where
-            cancel : (k l : ℕ) → sort_op c k ≡ sort_op c l → k ≡ l
+            cancel : (k l : ℕ) → sort_operator c k ≡ sort_operator c l → k ≡ l
             cancel k l e = omega (arith, e)
 
-        sorts : GoesForward plan seen (map (sort_op c) ls)
+        sorts : GoesForward plan seen (map (sort_operator c) ls)
         sorts = sorts_forward ls seen (filter_apart (has_sort choice) (links_into c o) (into_apart c o)) (λ l i. (let k = (filter_in (has_sort choice) (links_into c o) l i).0 in ((in_into c o l k).0, from_seen l k, sort_new l k)))
 
         mid : List ℕ
-        mid = after_seen (map (sort_op c) ls) seen
+        mid = after_seen (map (sort_operator c) ls) seen
 
         o_new : IsIn o mid → ⊥
-        o_new i = elim (seen_in (map (sort_op c) ls) seen o i) [
-          | inl j ↦ (let r = in_mapped (sort_op c) ls o j in let e = r.2 in let b = o_below in absurd (omega (arith, e, b)))
+        o_new i = elim (seen_in (map (sort_operator c) ls) seen o i) [
+          | inl j ↦ (let r = in_mapped (sort_operator c) ls o j in let e = r.2 in let b = o_below in absurd (omega (arith, e, b)))
           | inr j ↦ elim (s.known o j) [ inl k ↦ (new o (inl refl)).1 k.0 | inr k ↦ (let e = k.1 in let b = o_below in absurd (omega (arith, e, b))) ]
         ]
 
         enters : (i : ℕ) → i < (plan.stream o).ports → AtPort o i → Before mid (plan.input o i)
-        enters i lt (at_link l k p t w) = subst (λ z. Before mid z) (sym w) (link_before mid l (in_into c o l k).0 (in_seen (map (sort_op c) ls) seen (link_at c l).from (from_seen l k)))
-        enters i lt (at_behind l k p t w) = subst (λ z. Before mid z) (sym w) (behind_before mid l (in_into c o l k).0 (in_new (map (sort_op c) ls) seen (sort_op c l) (mapped_in (sort_op c) ls l (in_filter (has_sort choice) (links_into c o) l k t))))
+        enters i lt (at_link l k p t w) = subst (λ z. Before mid z) (sym w) (link_before mid l (in_into c o l k).0 (in_seen (map (sort_operator c) ls) seen (link_at c l).from (from_seen l k)))
+        enters i lt (at_behind l k p t w) = subst (λ z. Before mid z) (sym w) (behind_before mid l (in_into c o l k).0 (in_new (map (sort_operator c) ls) seen (sort_operator c l) (mapped_in (sort_operator c) ls l (in_filter (has_sort choice) (links_into c o) l k t))))
         enters i lt (at_file n z w) = subst (λ y. Before mid y) (sym w) (file_before mid o)
 
         here : GoesForward plan seen (with_sorts c choice o)
-        here = forward_both (map (sort_op c) ls) (o ∷ []) seen sorts (λ i lt. enters i lt (port_at o i o_below lt), o_new, tt)
+        here = forward_both (map (sort_operator c) ls) (o ∷ []) seen sorts (λ i lt. enters i lt (port_at o i o_below lt), o_new, tt)
 
         then_seen : Seen (o ∷ finished) (after_seen (with_sorts c choice o) seen)
         then_seen = record {
           has = λ p i. elim i [
-            | inl e ↦ in_new (with_sorts c choice o) seen p (subst (λ z. IsIn z (with_sorts c choice o)) (sym e) (in_back o (map (sort_op c) ls) (o ∷ []) (inl refl)))
+            | inl e ↦ in_new (with_sorts c choice o) seen p (subst (λ z. IsIn z (with_sorts c choice o)) (sym e) (in_back o (map (sort_operator c) ls) (o ∷ []) (inl refl)))
             | inr j ↦ in_seen (with_sorts c choice o) seen p (s.has p j)
           ];
           known = λ x i. elim (seen_in (with_sorts c choice o) seen x i) [
-            | inl j ↦ elim (in_either x (map (sort_op c) ls) (o ∷ []) j) [
-              | inl k ↦ (let r = in_mapped (sort_op c) ls x k in inr (r.0, r.2, inl (in_into c o r.0 (filter_in (has_sort choice) (links_into c o) r.0 r.1).0).1))
+            | inl j ↦ elim (in_either x (map (sort_operator c) ls) (o ∷ []) j) [
+              | inl k ↦ (let r = in_mapped (sort_operator c) ls x k in inr (r.0, r.2, inl (in_into c o r.0 (filter_in (has_sort choice) (links_into c o) r.0 r.1).0).1))
               | inr k ↦ inl (elim k [ inl e ↦ inl e | inr n ↦ absurd n ], subst (λ z. z < op_count c) (elim k [ inl e ↦ sym e | inr n ↦ absurd n ]) o_below)
             ]
             | inr j ↦ elim (s.known x j) [ inl k ↦ inl (inr k.0, k.1) | inr k ↦ inr (k.0, k.1, inr k.2) ]

@@ -20,7 +20,8 @@ use Rattle.flow_graph.specs.Destinations.{SentFrom, lane, lanes_to}
 use Rattle.flow_graph.specs.FlowShape.{may_stand}
 use Rattle.flow_graph.specs.Runs.{Arrives}
 use Rattle.flow_plan.specs.Data.{Datum, row_in, rows_in}
-use Rattle.flow_plan.specs.Planned.{is_same, gather_by, goes_by}
+use Rattle.flow_score.specs.Scores.{is_same}
+use Rattle.flow_plan.specs.Planned.{gather_by, goes_by}
 use Rattle.plan_sound.proofs.Collecting.{any_rows, ordered_rows, round_rows, merge_rows, lists_range, lists_same, sent_all, sent_rows, lanes_are}
 
 -- what the collector of a port made of what was sent there by n partitions, and by the partition of the same number

@@ -28,10 +28,11 @@ use Rattle.flow_graph.specs.FlowShape.{ForwardOrder}
 use Rattle.flow_graph.specs.Operators.{Op}
 use Rattle.flow_graph.specs.Runs as runs
 use Rattle.flow_graph.specs.Runs.{Lists, Runs, Delivers, Arrives, slice, faults_on, arranged_if}
+use Rattle.flow_score.specs.Scores.{is_same}
 use Rattle.flow_plan.specs.Data.{Datum, rows_in}
-use Rattle.flow_plan.specs.Planned.{op_count, link_count, sort_op, behind_way, has_sort, sorter, is_same, link, behind, file, wire_by, plan_of, StreamsFit}
+use Rattle.flow_plan.specs.Planned.{op_count, link_count, sort_operator, link_behind_sort, has_sort, sorter, link, behind, file, plan_wire, plan_of, StreamsFit}
 use Rattle.plan_sound.specs.Working.{rows_at, AllFit, IsFileOf, Came, Made, Works}
-use Rattle.plan_sound.specs.Tied.{out_by, node_by, player, file_lane, sent_by, got_by, lists_of, CanPlay, IsTied, LegalRuns}
+use Rattle.plan_sound.specs.FlowRuns.{out_by, node_by, player, file_lane, sent_by, got_by, lists_of, CanPlay, IsTied, LegalRuns}
 use Rattle.flow_plan.proofs.Members.{order_has, order_below, into_in, from_in, in_into, in_from}
 use Rattle.flow_plan.proofs.Following.{numbered_gives, on_rows}
 use Rattle.flow_plan.proofs.Wiring as wiring
@@ -112,7 +113,7 @@ module _ (c : Chart) (fits : ℕ → Row → Bool) (choice : ℕ → Choice) (de
   sends_on l s = on (link_at c l).out (made (player (link_at c l).from s))
 
   abbrev first_op : ℕ → ℕ
-  first_op l = cond (has_sort choice l) (sort_op c l) (link_at c l).to
+  first_op l = cond (has_sort choice l) (sort_operator c l) (link_at c l).to
 
   abbrev first_port : ℕ → ℕ
   first_port l = cond (has_sort choice l) 0 (link_at c l).port
@@ -153,7 +154,7 @@ module _ (c : Chart) (fits : ℕ → Row → Bool) (choice : ℕ → Choice) (de
     facts : IsIn (first_op l) plan.order × (first_port l < (plan.stream (first_op l)).ports) × (plan.input (first_op l) (first_port l) ≡ l) × (plan.degree (first_op l) ≡ degree (link_at c l).to)
     facts = wiring.out_link c choice degree stream can.shape can.choices streams l h (has_sort choice l) refl
 
-    wire_is : plan.wire (plan.input (first_op l) (first_port l)) ≡ wire_by c choice degree (link l)
+    wire_is : plan.wire (plan.input (first_op l) (first_port l)) ≡ plan_wire c choice degree (link l)
     wire_is = ap plan.wire facts.2 ∙ wiring.wire_link c choice degree stream can.shape can.choices streams l h
 
     low_at : (j : ℕ) → j < degree (link_at c l).to → j < plan.degree (first_op l)
@@ -162,16 +163,16 @@ module _ (c : Chart) (fits : ℕ → Row → Bool) (choice : ℕ → Choice) (de
     many_come : is_same (choice l).method ≡ false → (j : ℕ) → j < degree (link_at c l).to → ManyCome (into_seq c l) (choice l).method (degree (link_at c l).from) (degree (link_at c l).to) (sends_on l) j (first_taken l j)
     many_come apart j m =
         subst (λ n. ManyCome (into_seq c l) (choice l).method n (degree (link_at c l).to) (sends_on l) j (first_taken l j)) (wiring.degree_working c choice degree stream can.shape can.choices streams (link_at c l).from from_low)
-        (many_from (first_op l) (first_port l) j (wire_by c choice degree (link l)) wire_is facts.0 facts.1 (low_at j m) refl apart)
+        (many_from (first_op l) (first_port l) j (plan_wire c choice degree (link l)) wire_is facts.0 facts.1 (low_at j m) refl apart)
 
     one_comes : is_same (choice l).method ≡ true → (j : ℕ) → j < degree (link_at c l).to → OneComes (into_seq c l) (choice l).method (degree (link_at c l).to) (sends_on l) j (first_taken l j)
-    one_comes straight j m = one_from (first_op l) (first_port l) j (wire_by c choice degree (link l)) wire_is facts.0 facts.1 (low_at j m) refl straight
+    one_comes straight j m = one_from (first_op l) (first_port l) j (plan_wire c choice degree (link l)) wire_is facts.0 facts.1 (low_at j m) refl straight
 
     -- what came, before a sort
     abbrev mid : List (List Row)
     mid = map (λ j. rows_in (first_taken l j)) (range_with_len 0 (degree (link_at c l).to))
 
-    pub arrives : Arrives (into_seq c l) (choice l).method (run.sent l) (map (λ j. rows_in (taken (player (cond (has_sort choice l) (sort_op c l) (link_at c l).to) j) (cond (has_sort choice l) 0 (link_at c l).port))) (range_with_len 0 (degree (link_at c l).to)))
+    pub arrives : Arrives (into_seq c l) (choice l).method (run.sent l) (map (λ j. rows_in (taken (player (cond (has_sort choice l) (sort_operator c l) (link_at c l).to) j) (cond (has_sort choice l) 0 (link_at c l).port))) (range_with_len 0 (degree (link_at c l).to)))
     arrives = brings (degree (link_at c l).from) (degree (link_at c l).to) (sends_on l) (first_taken l) (can.choices.some (link_at c l).from from_low) (into_seq c l) (choice l).method
         (can.choices.may_stand l h) (λ s. can.choices.one (link_at c l).to to_low s) (λ s. can.choices.equal l h s) one_comes many_come
 
@@ -180,46 +181,46 @@ module _ (c : Chart) (fits : ℕ → Row → Bool) (choice : ℕ → Choice) (de
     seat_at o j there low = players-in plan wired plan.order o j there low
 
     sorted_at : (sort : Option (List Key)) → (choice l).sort ≡ sort → (j : ℕ) → j < degree (link_at c l).to → got_by c taken l j ≡ arranged_if sort (rows_in (first_taken l j))
-    sorted_at None e j m = ap (λ b. rows_in (taken (player (cond b (sort_op c l) (link_at c l).to) j) (cond b 0 (link_at c l).port))) (sym (ap is_some e))
-    sorted_at (Some keys) e j m = from_sort ∙ sorted ∙ ap (λ b. arranged keys (rows_in (taken (player (cond b (sort_op c l) (link_at c l).to) j) (cond b 0 (link_at c l).port)))) (sym has)
+    sorted_at None e j m = ap (λ b. rows_in (taken (player (cond b (sort_operator c l) (link_at c l).to) j) (cond b 0 (link_at c l).port))) (sym (ap is_some e))
+    sorted_at (Some keys) e j m = from_sort ∙ sorted ∙ ap (λ b. arranged keys (rows_in (taken (player (cond b (sort_operator c l) (link_at c l).to) j) (cond b 0 (link_at c l).port)))) (sym has)
       where
         has : has_sort choice l ≡ true
         has = ap is_some e
 
         p : Player
-        p = player (sort_op c l) j
+        p = player (sort_operator c l) j
 
-        there : IsIn (sort_op c l) plan.order
+        there : IsIn (sort_operator c l) plan.order
         there = wiring.sorting_in c choice degree stream l h has to_there
 
-        behind_at : plan.input (link_at c l).to (link_at c l).port ≡ behind_way c l
-        behind_at = wiring.input_at c choice degree stream can.shape can.choices streams (link_at c l).to l to_low enters ∙ ap (λ b. cond b (behind_way c l) l) has
+        behind_at : plan.input (link_at c l).to (link_at c l).port ≡ link_behind_sort c l
+        behind_at = wiring.input_at c choice degree stream can.shape can.choices streams (link_at c l).to l to_low enters ∙ ap (λ b. cond b (link_behind_sort c l) l) has
 
-        behind_is : plan.wire (plan.input (link_at c l).to (link_at c l).port) ≡ wire_by c choice degree (behind l)
+        behind_is : plan.wire (plan.input (link_at c l).to (link_at c l).port) ≡ plan_wire c choice degree (behind l)
         behind_is = ap plan.wire behind_at ∙ wiring.wire_behind c choice degree stream can.shape can.choices streams l h
 
         low : j < plan.degree (link_at c l).to
         low = subst (λ n. j < n) (sym (wiring.degree_working c choice degree stream can.shape can.choices streams (link_at c l).to to_low)) m
 
-        comes : OneFrom (wire_by c choice degree (behind l)) j (taken (player (link_at c l).to j) (link_at c l).port)
-        comes = one_from (link_at c l).to (link_at c l).port j (wire_by c choice degree (behind l)) behind_is (wiring.working_in c choice degree stream (link_at c l).to to_there)
+        comes : OneFrom (plan_wire c choice degree (behind l)) j (taken (player (link_at c l).to j) (link_at c l).port)
+        comes = one_from (link_at c l).to (link_at c l).port j (plan_wire c choice degree (behind l)) behind_is (wiring.working_in c choice degree stream (link_at c l).to to_there)
             (wiring.ports_working c choice degree stream can.shape can.choices streams (link_at c l).to (link_at c l).port to_low (wiring.port_of c choice degree stream can.shape can.choices streams (link_at c l).to l to_low enters).0) low refl refl
 
-        from_sort : got_by c taken l j ≡ rows_in (on 0 (made (player (sort_op c l) j)))
-        from_sort = interleaves_one (rows_in (sent (λ t x. true) 0 (on 0 (made (player (sort_op c l) j)))) ∷ []) (got_by c taken l j) (rows_in (on 0 (made (player (sort_op c l) j))))
-            (subst (λ t. Interleaves (rows_in (sent (λ t x. true) 0 (on 0 (made (player (sort_op c l) j)))) ∷ []) (rows_in t)) (sym comes.2) (any_rows 1 (omega arith) (λ s. sent (λ t x. true) 0 (on 0 (made (player (sort_op c l) j)))) comes.0 comes.1))
-            (inl (ap rows_in (sent_all 0 (on 0 (made (player (sort_op c l) j)))), tt))
+        from_sort : got_by c taken l j ≡ rows_in (on 0 (made (player (sort_operator c l) j)))
+        from_sort = interleaves_one (rows_in (sent (λ t x. true) 0 (on 0 (made (player (sort_operator c l) j)))) ∷ []) (got_by c taken l j) (rows_in (on 0 (made (player (sort_operator c l) j))))
+            (subst (λ t. Interleaves (rows_in (sent (λ t x. true) 0 (on 0 (made (player (sort_operator c l) j)))) ∷ []) (rows_in t)) (sym comes.2) (any_rows 1 (omega arith) (λ s. sent (λ t x. true) 0 (on 0 (made (player (sort_operator c l) j)))) comes.0 comes.1))
+            (inl (ap rows_in (sent_all 0 (on 0 (made (player (sort_operator c l) j)))), tt))
 
-        sort_low : j < plan.degree (sort_op c l)
+        sort_low : j < plan.degree (sort_operator c l)
         sort_low = subst (λ n. j < n) (sym (wiring.degree_sorting c choice degree stream can.shape can.choices streams l)) m
 
-        given : Gives (sorter (Some keys)) (taken (player (sort_op c l) j)) (made (player (sort_op c l) j))
-        given = subst (λ s. Gives s (taken (player (sort_op c l) j)) (made (player (sort_op c l) j))) (wiring.stream_sorting c choice degree stream can.shape can.choices streams l ∙ ap sorter e) (legal.given p (seat_at (sort_op c l) j there sort_low))
+        given : Gives (sorter (Some keys)) (taken (player (sort_operator c l) j)) (made (player (sort_operator c l) j))
+        given = subst (λ s. Gives s (taken (player (sort_operator c l) j)) (made (player (sort_operator c l) j))) (wiring.stream_sorting c choice degree stream can.shape can.choices streams l ∙ ap sorter e) (legal.given p (seat_at (sort_operator c l) j there sort_low))
 
-        sorted : rows_in (on 0 (made (player (sort_op c l) j))) ≡ arranged keys (rows_in (taken (player (sort_op c l) j) 0))
+        sorted : rows_in (on 0 (made (player (sort_operator c l) j))) ≡ arranged keys (rows_in (taken (player (sort_operator c l) j) 0))
         sorted =
-            let g = numbered_gives 0 (tsort_stream keys) (taken (player (sort_op c l) j)) (made (player (sort_op c l) j)) given in
-            ap (λ m. rows_in (on 0 m)) g.2 ∙ on_rows 0 0 g.0 ∙ ap (on 0) (tsort-arranges keys (λ i. rows_in (taken (player (sort_op c l) j) i)) g.0 g.1) ∙ on_sent (arranged keys (rows_in (taken (player (sort_op c l) j) 0)))
+            let g = numbered_gives 0 (tsort_stream keys) (taken (player (sort_operator c l) j)) (made (player (sort_operator c l) j)) given in
+            ap (λ m. rows_in (on 0 m)) g.2 ∙ on_rows 0 0 g.0 ∙ ap (on 0) (tsort-arranges keys (λ i. rows_in (taken (player (sort_operator c l) j) i)) g.0 g.1) ∙ on_sent (arranged keys (rows_in (taken (player (sort_operator c l) j) 0)))
 
     got_at : (j : ℕ) → j < degree (link_at c l).to → got_by c taken l j ≡ arranged_if (choice l).sort (rows_in (first_taken l j))
     got_at j m = sorted_at (choice l).sort refl j m
@@ -264,7 +265,7 @@ module _ (c : Chart) (fits : ℕ → Row → Bool) (choice : ℕ → Choice) (de
         go (at_link l i a s w) = absurd (subst (λ ls. IsIn l ls) none i)
         go (at_behind l i a s w) = absurd (subst (λ ls. IsIn l ls) none i)
         go (at_file n z w) =
-            let wire_is : plan.wire (plan.input o 0) ≡ wire_by c choice degree (file o) = ap plan.wire w ∙ wiring.wire_file c choice degree stream can.shape can.choices streams o in
+            let wire_is : plan.wire (plan.input o 0) ≡ plan_wire c choice degree (file o) = ap plan.wire w ∙ wiring.wire_file c choice degree stream can.shape can.choices streams o in
             let k = file_collected plan wired files lane taken made legal o 0 p o_there port (low_as p m) (ap (λ (z : Wire Datum Fault). z.file) wire_is) in
             let own : List Datum = files (record { link = plan.input o 0; from = p; to = p }) in
             let gives : Gives (any_stream 1) (λ s. own) k.outs = subst (λ (z : Wire Datum Fault). Gives (gathered z.gather 1) (λ s. own) k.outs) wire_is k.gives in

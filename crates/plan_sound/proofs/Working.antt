@@ -17,7 +17,7 @@ use Rattle.flow_graph.specs.Runs.{result_on}
 use Rattle.flow_plan.specs.Data.{Datum, plain, line, wrong, rows_in, out_at, numbered_at, line_outs, import_outs, import_stream, step_outs, dsread_stream, step_rows, step_faults}
 use Rattle.flow_plan.specs.Planned.{ports_for}
 use Rattle.plan_sound.specs.Working.{GivesOn, rows_at, AllFit, Came}
-use Rattle.plan_sound.specs.Streaming.{InputsFit, MeaningWorks, SourcesWork}
+use Rattle.plan_sound.specs.OperatorStreams.{InputsFit, MeaningWorks, SourcesWork}
 use Rattle.flow_plan.proofs.Following.{numbered_is, numbered_gives, on_rows, faults_numbered}
 
 module _ (c : Chart) (fits : ℕ → Row → Bool) (o : ℕ) where

@@ -1,3 +1,3 @@
 pub mod Working
-pub mod Tied
-pub mod Streaming
+pub mod OperatorStreams
+pub mod FlowRuns

@@ -1,5 +1,5 @@
-ghost use Rattle.plan_sound.specs.Tied.{LegalRuns};
-ghost use Rattle.plan_sound.specs.Streaming.{MeaningWorks, SourcesWork, StreamsMean};
+ghost use Rattle.plan_sound.specs.FlowRuns.{LegalRuns};
+ghost use Rattle.plan_sound.specs.OperatorStreams.{MeaningWorks, SourcesWork, StreamsMean};
 
 /// A legal execution of the plan is a legal run of the flow.
 pub fn executions_are_runs()

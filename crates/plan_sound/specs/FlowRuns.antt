@@ -14,7 +14,7 @@ use Rattle.flow_graph.specs.Operators.{Op}
 use Rattle.flow_graph.specs.Runs as runs
 use Rattle.flow_graph.specs.Runs.{Node, Lists, Runs, FitsDegree}
 use Rattle.flow_plan.specs.Data.{Datum, rows_in}
-use Rattle.flow_plan.specs.Planned.{op_count, link_count, file_way, plan_of, ChoicesFit}
+use Rattle.flow_plan.specs.Planned.{op_count, link_count, file_link, plan_of, ChoicesFit}
 use Rattle.plan_sound.specs.Working.{AllFit, IsFileOf, Works}
 
 -- the flow as operators in its order, with what is chosen for each link
@@ -32,7 +32,7 @@ player o p = record { operator = o; partition = p }
 
 -- the file of a source's partition
 abbrev pub file_lane : Chart → ℕ → ℕ → Lane
-file_lane c o p = record { link = file_way c o; from = p; to = p }
+file_lane c o p = record { link = file_link c o; from = p; to = p }
 
 -- what the partitions of a link's producer emitted for it, what those of its consumer took, and the faults of the partitions of an operator
 abbrev pub sent_by : Chart → (Player → List (Out Datum Fault)) → ℕ → ℕ → List Row

@@ -11,7 +11,7 @@ use Rattle.std.specs.Prelude.{Option}
 use Rattle.op_base.specs.declared.fault.Fault.{Fault}
 use Rattle.op_base.specs.declared.missing.Missing.{Missing}
 use Rattle.op_base.specs.Columns.{Row, IsIn}
-use Rattle.op_base.specs.Meanings.{Line, Segment, Grouping, Join, Merging, Looking, input}
+use Rattle.op_base.specs.Meanings.{Line, Segment, Join, Merging, Looking, input}
 use Rattle.op_base.specs.RowOperators.{RowRule}
 use Rattle.op_base.specs.Standing.{RowStream}
 use Rattle.op_row.specs.ByRow.{by_row as by_row_stream}
@@ -29,6 +29,7 @@ use Rattle.flow_graph.specs.FlowShape.{PortsInOrder}
 use Rattle.flow_graph.specs.Operators.{Op, import, dsread, by_row, tsort, remdup, group, join, merge, lookup, changecapture, funnel, funnel_sequence, funnel_sort}
 use Rattle.flow_graph.specs.RowRules.{at_op, numbered}
 use Rattle.flow_graph.specs.Runs.{faults_on}
+use Rattle.flow_ops.specs.Keyed.{grouping_at}
 use Rattle.flow_plan.specs.Data.{numbered_at, import_stream, dsread_stream}
 use Rattle.plan_sound.specs.Working.{GivesOn, AllFit, Works}
 
@@ -42,10 +43,7 @@ pub record Means (o ports outs : ℕ) (suits : List (List Row) → Bool) (op : O
 abbrev pub any_lists : List (List Row) → Bool
 any_lists lists = true
 
--- the same operators, where their faults have a number
-abbrev pub group_at : ℕ → Grouping → Grouping
-group_at o g = record { keys = g.keys; hashes = g.hashes; sees_order = g.sees_order; results = g.results; over = λ values. at_op o (g.over values) }
-
+-- the same lookup, where its faults are of the operator with this number
 abbrev pub looking_at : ℕ → Looking → Looking
 looking_at o k = record { main_keys = k.main_keys; reference_keys = k.reference_keys; main = k.main; others = k.others; missing = k.missing; fault = λ a. at_op o (k.fault a) }
 
@@ -67,7 +65,7 @@ pub record OperatorsMean (o : ℕ) : Type 0 where
   pub by_row : (rule : RowRule) (outs : ℕ) → Means o 1 outs any_lists (by_row (numbered o rule)) (by_row_stream rule outs)
   pub tsort : (keys : List Key) → Means o 1 1 any_lists (tsort keys) (tsort_stream keys)
   pub remdup : (last : Bool) (keys : List Key) → Means o 1 1 any_lists (remdup last keys) (remdup_stream keys last)
-  pub group : (keys : List Key) (hashes : Bool) (aggs : List Agg) → Means o 1 1 any_lists (group (group_at o (grouping keys hashes aggs))) (group_stream keys hashes aggs)
+  pub group : (keys : List Key) (hashes : Bool) (aggs : List Agg) → Means o 1 1 any_lists (group (grouping_at o (grouping keys hashes aggs))) (group_stream keys hashes aggs)
   pub join : (j : Join) → Means o 2 1 any_lists (join j) (join_stream j)
   pub merge : (m : Merging) → 0 < length m.keys → Means o (length m.keys) (length m.keys) any_lists (merge m) (match.merge_stream m)
   pub lookup : (values : ℕ) (main reference : List ℕ) (width : ℕ) (missing : Missing) (k : Looking) → IsLooking values main reference width missing k → Means o 2 2 (main_width values) (lookup (looking_at o k)) (looked_stream main reference width missing)
