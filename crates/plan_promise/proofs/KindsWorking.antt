@@ -18,6 +18,7 @@ use Rattle.op_base.specs.Standing.{RowStream}
 use Rattle.op_base.proofs.All.{all_append, map_two}
 use Rattle.op_base.proofs.RowLists.{by_key_all}
 use Rattle.op_row.specs.ByRow.{by_row as by_row_stream}
+use Rattle.op_row.specs.Expressed.{with_rejects}
 use Rattle.flow_graph.specs.declared.flow.Flow.{Flow}
 use Rattle.flow_graph.specs.declared.parts.Stored.{Stored}
 use Rattle.flow_graph.specs.declared.op_kind.OpKind.{OpKind}
@@ -34,6 +35,8 @@ use Rattle.flow_rules.specs.Exports.{IsExport}
 use Rattle.op_shape.specs.Options.{IsKeyed, output_fields}
 use Rattle.shape_base.specs.Fields.{first_fields}
 use Rattle.flow_shape.specs.Refusals.{fields_at, inputs_at}
+use Rattle.flow_shape.specs.Ports.{rejects, with_reject}
+use Rattle.flow_links.specs.Outputs.{outputs_of, outputs_at, LinksOutputs}
 use Rattle.flow_sound.specs.Fitting.{IsByRow, RowsFit}
 use Rattle.flow_sound.specs.Kinds.{IsOfKind}
 use Rattle.flow_sound.specs.Promise.{ShapedFlow}
@@ -48,7 +51,11 @@ use Rattle.plan_sound.specs.OperatorStreams.{Means, OperatorsMean, InputsFit, St
 use Rattle.plan_sound.specs.Working.{GivesOn, Works}
 use Rattle.plan_sound.proofs.Meaning.{streams_mean}
 use Rattle.plan_sound.proofs.Working.{meaning_works, sources_work}
-use Rattle.plan_promise.specs.KindStreams.{row_stream, stream_by, stream_at, outs_by, OutsLie, fits_at, SinksAre, KindsWork}
+use Rattle.plan_promise.specs.KindStreams.{stream_by, fits_at, SinksAre, KindsWork}
+
+one_more : {n : ℕ} (b : Bool) (m : ℕ) → n < with_reject b m → n < with_rejects m b
+one_more true m l = omega (arith, l)
+one_more false m l = l
 
 -- rows run by run
 runs_all : (P : Row → Type 0) (last : Bool) (n : ℕ) (ds : List Bool) (cs : List ℕ) (rows : List Row) → AllByRecursion P rows → AllByRecursion P (run_by_run n ds (cs ∷ []) (λ v same. one_row last (input 0 same)) (rows ∷ []))
@@ -110,12 +117,15 @@ none_into : (ls : List ℕ) → length ls ≡ 0 → ls ≡ []
 none_into [] e = refl
 none_into (l ∷ ls) e = absurd (omega (arith, e))
 
-module _ (flow : Flow) (dict : List Stored) (c : Chart) (ops : ℕ → Op) (unwritable : ℕ → Row → List Fault) (s : ShapedFlow flow dict c ops) (outs : OutsLie c) (sinks : SinksAre c ops unwritable) (o : ℕ) (h : o < op_count c) where
+module _ (flow : Flow) (dict : List Stored) (c : Chart) (ops : ℕ → Op) (unwritable : ℕ → Row → List Fault) (s : ShapedFlow flow dict c ops) (outs : LinksOutputs c) (sinks : SinksAre c ops unwritable) (o : ℕ) (h : o < op_count c) where
   abbrev parts : OpParts
   parts = parts_of c o
 
   abbrev widths : List ℕ
   widths = widths_into c o
+
+  abbrev arriving : ℕ
+  arriving = length (links_into c o)
 
   abbrev leaving : ℕ
   leaving = length (links_from c o)
@@ -129,10 +139,10 @@ module _ (flow : Flow) (dict : List Stored) (c : Chart) (ops : ℕ → Op) (unwr
   ports : (k : OpKind) → (op_at c o).kind ≡ k → FormPorts (kind_form k (Rattle.flow_graph.specs.Charts.keys_at c o) (Rattle.flow_graph.specs.Charts.cols_at c o) (get_or c.stored o None) (Rattle.flow_graph.specs.Charts.first_width c o)) (length (links_into c o))
   ports k e = subst (λ (z : OpKind). FormPorts (kind_form z (Rattle.flow_graph.specs.Charts.keys_at c o) (Rattle.flow_graph.specs.Charts.cols_at c o) (get_or c.stored o None) (Rattle.flow_graph.specs.Charts.first_width c o)) (length (links_into c o))) e (s.shape.ops o h).inputs
 
-  at_outs : (k : OpKind) → (op_at c o).kind ≡ k → (l : ℕ) → IsIn l (links_from c o) → (link_at c l).out < outs_by k leaving
+  at_outs : (k : OpKind) → (op_at c o).kind ≡ k → (l : ℕ) → IsIn l (links_from c o) → (link_at c l).out < outputs_of k arriving leaving
   at_outs k e l i =
       let b = leaves_it c o l i in
-      subst (λ (z : OpKind). (link_at c l).out < outs_by z leaving) e (subst (λ p. (link_at c l).out < outs_by (op_at c p).kind (length (links_from c p))) b.0 (outs l b.1))
+      subst (λ (z : OpKind). (link_at c l).out < outputs_of z arriving leaving) e (subst (λ p. (link_at c l).out < outputs_at c p) b.0 (outs.below l b.1))
 
   fields : (k : OpKind) → (op_at c o).kind ≡ k → (l : ℕ) → IsIn l (links_from c o) → fields_at c l ≡ output_fields k (inputs_at c o) (link_at c l).out
   fields k e l i =
@@ -186,7 +196,7 @@ module _ (flow : Flow) (dict : List Stored) (c : Chart) (ops : ℕ → Op) (unwr
       (subst (λ (z : Op). IsOfKind o k parts (map length (inputs_at c o)) z) is (subst (λ ws. IsOfKind o k parts ws (ops o)) (sym (map_two (fields_at c) length (links_into c o))) (is_of k e)))
       (subst (λ (z : OpKind). Rattle.flow_sound.proofs.KeyedOps.WorksByKey z (inputs_at c o) parts) e (keyed_at flow dict c s.shape s.shape_of o h (subst IsKeyed (sym e) b))) f).1
 
-  joins : (k : OpKind) (j : Rattle.op_base.specs.Meanings.Join) → (op_at c o).kind ≡ k → IsKeyed k → outs_by k leaving ≡ 1 → length (links_into c o) ≡ 2 → ops o ≡ join j → Works c (fits_at c) o (ops o) (numbered_at o (Rattle.op_join.specs.Joining.join_stream j))
+  joins : (k : OpKind) (j : Rattle.op_base.specs.Meanings.Join) → (op_at c o).kind ≡ k → IsKeyed k → outputs_of k arriving leaving ≡ 1 → length (links_into c o) ≡ 2 → ops o ≡ join j → Works c (fits_at c) o (ops o) (numbered_at o (Rattle.op_join.specs.Joining.join_stream j))
   joins k j e b one two is =
       by_meaning (join j) (Rattle.op_join.specs.Joining.join_stream j) 2 1 any_lists is two (omega arith) (λ l i. subst (λ n. (link_at c l).out < n) one (at_outs k e l i)) any_suits
       (stays_by k (join j) e (λ q p inputs rows f given. subst (RowsFit (output_fields k (inputs_at c o) q)) (sym given) (keyed_fits k (join j) e b is q inputs f))) ((streams_mean o).join j)
@@ -198,7 +208,7 @@ module _ (flow : Flow) (dict : List Stored) (c : Chart) (ops : ℕ → Op) (unwr
       (sources_work.import c (fits_at c) o is.0 reject is.1 (none_into (links_into c o) (ports (kind.Import file schema delim fixed reject) e)) (λ l i. few reject (at_outs (kind.Import file schema delim fixed reject) e l i))
       (stays_by (kind.Import file schema delim fixed reject) (import is.0 reject is.1) e (λ q p inputs rows f given. subst (RowsFit (output_fields (kind.Import file schema delim fixed reject) (inputs_at c o) q)) (sym given) (lines_fit schema reject is.0 q is.2))))
     where
-      few : {n : ℕ} (b : Bool) → n < Rattle.op_row.specs.Expressed.with_rejects 1 b → n < 2
+      few : {n : ℕ} (b : Bool) → n < with_reject b 1 → n < 2
       few true l = l
       few false l = omega (arith, l)
   works (kind.Export file delim fixed) e =
@@ -211,7 +221,7 @@ module _ (flow : Flow) (dict : List Stored) (c : Chart) (ops : ℕ → Op) (unwr
   works (kind.Filter test reject) e = by_rule (kind.Filter test reject) _ _ e tt (ports (kind.Filter test reject) e) (is_of (kind.Filter test reject) e) refl (at_outs (kind.Filter test reject) e)
   works (kind.Transform set reject) e = by_rule (kind.Transform set reject) _ _ e tt (ports (kind.Transform set reject) e) (is_of (kind.Transform set reject) e) refl (at_outs (kind.Transform set reject) e)
   works (kind.Modify keep drop rename) e = by_rule (kind.Modify keep drop rename) (Rattle.op_base.specs.RowOperators.modify_rule parts.cols) 1 e tt (ports (kind.Modify keep drop rename) e) (is_of (kind.Modify keep drop rename) e) refl (at_outs (kind.Modify keep drop rename) e)
-  works (kind.Switch on cases reject) e = by_rule (kind.Switch on cases reject) _ _ e tt (ports (kind.Switch on cases reject) e) (is_of (kind.Switch on cases reject) e) refl (at_outs (kind.Switch on cases reject) e)
+  works (kind.Switch on cases reject) e = by_rule (kind.Switch on cases reject) _ _ e tt (ports (kind.Switch on cases reject) e) (is_of (kind.Switch on cases reject) e) refl (λ l i. one_more reject (length cases) (at_outs (kind.Switch on cases reject) e l i))
   works (kind.Tsort key) e =
       let keys = get_keys parts.keys 0 in
       by_meaning (tsort keys) (Rattle.op_order.specs.Ordered.tsort_stream keys) 1 1 any_lists (is_of (kind.Tsort key) e) (ports (kind.Tsort key) e) (omega arith) (at_outs (kind.Tsort key) e) any_suits
@@ -258,7 +268,7 @@ module _ (flow : Flow) (dict : List Stored) (c : Chart) (ops : ℕ → Op) (unwr
       (stays_by (kind.Lookup key m) op e (λ q p inputs rows f given. subst (RowsFit (output_fields (kind.Lookup key m) (inputs_at c o) q)) (sym given) (keyed_fits (kind.Lookup key m) op e tt (is_of (kind.Lookup key m) e) q inputs f)))
       ((streams_mean o).lookup (get_or widths 0 0) (cols (get_keys parts.keys 0)) (cols (get_keys parts.keys 1)) (get_or widths 1 0) m k0 (record { main_is = refl; reference_is = refl; own_is = refl; others_are = refl; missing_is = refl; fault_is = λ a. refl }))
     where
-      few : {n : ℕ} (z : Missing) → n < Rattle.plan_promise.specs.KindStreams.missing_outs z → n < 2
+      few : {n : ℕ} (z : Missing) → n < with_reject (rejects z) 1 → n < 2
       few missing.Continue l = omega (arith, l)
       few missing.Drop l = omega (arith, l)
       few missing.Fail l = omega (arith, l)

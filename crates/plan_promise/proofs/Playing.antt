@@ -13,6 +13,7 @@ use Rattle.flow_graph.specs.Charts.{Chart, into_seq, width_at}
 use Rattle.flow_graph.specs.FlowShape.{WrittenFits, may_stand}
 use Rattle.flow_derive.specs.LinkStates.{choice_at, written_or_same}
 use Rattle.flow_graph.specs.Operators.{Op}
+use Rattle.flow_links.specs.Outputs.{LinksOutputs}
 use Rattle.flow_sound.specs.Promise.{ShapedFlow}
 use Rattle.flow_sound.proofs.Keeping.{run_keeps}
 use Rattle.core_laws.proofs.Reading.{untold_finished_is_legal}
@@ -21,7 +22,7 @@ use Rattle.flow_plan.specs.Planned.{plan_of, ChoicesFit}
 use Rattle.plan_sound.specs.FlowRuns.{CanPlay}
 use Rattle.plan_sound.proofs.Tying.{legal_runs}
 use Rattle.flow_plan.proofs.Wiring.{plans_are_wired}
-use Rattle.plan_promise.specs.KindStreams.{stream_at, fits_at, OutsLie, SinksAre}
+use Rattle.plan_promise.specs.KindStreams.{stream_at, fits_at, SinksAre}
 use Rattle.plan_promise.specs.Promised.{chart_plan, WrittenStands, ExecutionsKeep, FinishedKeeps, UntoldKeeps, RunsKeep, BatchesKeep}
 use Rattle.plan_promise.proofs.KindsWorking.{kinds_work}
 
@@ -52,7 +53,7 @@ executions_keep regains flow dict c states choices ops whole degree unwritable f
     run_keeps regains flow dict c states choices ops whole _ (record { shaped = p.shaped; verdict = p.verdict; means = p.means; legal = tied.runs })
 
 module _ (flow : Rattle.flow_graph.specs.declared.flow.Flow.Flow) (dict : List Rattle.flow_graph.specs.declared.parts.Stored.Stored) (c : Chart) (ops : ℕ → Op) (degree : ℕ → ℕ) (unwritable : ℕ → Row → List Fault) where
-  flow_wired : ShapedFlow flow dict c ops → ChoicesFit c (choice_at c) degree → OutsLie c → SinksAre c ops unwritable → IsWired (plan_of c (choice_at c) degree (stream_at c unwritable))
+  flow_wired : ShapedFlow flow dict c ops → ChoicesFit c (choice_at c) degree → LinksOutputs c → SinksAre c ops unwritable → IsWired (plan_of c (choice_at c) degree (stream_at c unwritable))
   flow_wired shaped fit outs sinks = plans_are_wired c (choice_at c) degree (stream_at c unwritable) shaped.shape fit (record {
     are = λ o h. (kinds_work flow dict c ops unwritable shaped outs sinks o h).is_stream;
     ports = λ o h. (kinds_work flow dict c ops unwritable shaped outs sinks o h).ports;

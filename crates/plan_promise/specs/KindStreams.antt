@@ -1,16 +1,14 @@
--- The streams of the operators that are built, by their kinds, and how many outputs each has.
+-- The streams of the operators that are built, by their kinds.
 use Rattle.std.specs.Prelude.{◌≡◌, ℕ, ◌<◌, Bool, List, length, map, get_or}
 use Rattle.streams.specs.Streams.{Stream}
 use Rattle.ds_schema.specs.Rows.{cols}
 use Rattle.ds_schema.specs.Schemas.{row_fits}
 use Rattle.op_base.specs.declared.fault.Fault.{Fault}
-use Rattle.op_base.specs.declared.missing.Missing.{Missing}
-use Rattle.op_base.specs.declared.missing.Missing.TheVariants as missing
 use Rattle.op_base.specs.Columns.{Row}
 use Rattle.op_base.specs.Keyed.{get_keys}
 use Rattle.op_base.specs.RowOperators.{sink_rule}
 use Rattle.op_row.specs.ByRow.{by_row as by_row_stream, copier_stream, modify_stream}
-use Rattle.op_row.specs.Expressed.{filter_stream, switch_stream, transform_stream, with_rejects}
+use Rattle.op_row.specs.Expressed.{filter_stream, switch_stream, transform_stream}
 use Rattle.op_order.specs.Ordered.{tsort_stream, remdup_stream}
 use Rattle.op_join.specs.declared.kind.JoinKind.TheVariants.{Inner, Left, Right, Full}
 use Rattle.op_join.specs.Joining.{join_stream}
@@ -21,16 +19,17 @@ use Rattle.flow_graph.specs.declared.op_kind.OpKind.{OpKind}
 use Rattle.flow_graph.specs.declared.op_kind.OpKind.TheVariants as kind
 use Rattle.flow_graph.specs.declared.parts.OpParts.{OpParts}
 use Rattle.flow_graph.specs.declared.parts.Stored.{Stored}
-use Rattle.flow_graph.specs.Charts.{Chart, link_at, links_from, op_at, parts_of}
+use Rattle.flow_graph.specs.Charts.{Chart, links_from, op_at, parts_of}
 use Rattle.flow_graph.specs.Operators.{Op, by_row}
 use Rattle.flow_graph.specs.RowRules.{at_op, first_expr, sets_of}
 use Rattle.flow_ops.specs.Keyed.{aggs_of, join_of}
 use Rattle.flow_ops.specs.Kinds.{widths_into}
 use Rattle.flow_rules.specs.Exports.{IsExport}
 use Rattle.flow_shape.specs.Refusals.{fields_at}
+use Rattle.flow_links.specs.Outputs.{LinksOutputs}
 use Rattle.flow_sound.specs.Promise.{ShapedFlow}
 use Rattle.flow_plan.specs.Data.{Datum, numbered_at, import_stream}
-use Rattle.flow_plan.specs.Planned.{op_count, link_count}
+use Rattle.flow_plan.specs.Planned.{op_count}
 use Rattle.plan_sound.specs.OperatorStreams.{group_stream}
 use Rattle.plan_sound.specs.Working.{Works}
 
@@ -59,25 +58,6 @@ stream_by o k parts widths outs unwritable = numbered_at o (row_stream k parts w
 abbrev pub stream_at : Chart → (ℕ → Row → List Fault) → ℕ → Stream Datum Fault
 stream_at c unwritable o = stream_by o (op_at c o).kind (parts_of c o) (widths_into c o) (length (links_from c o)) (unwritable o)
 
-abbrev pub missing_outs : Missing → ℕ
-missing_outs missing.Reject = 2
-missing_outs m = 1
-
--- the number of outputs
-abbrev pub outs_by : OpKind → ℕ → ℕ
-outs_by (kind.Import file schema delim fixed reject) outs = with_rejects 1 reject
-outs_by (kind.Export file delim fixed) outs = 0
-outs_by kind.Copy outs = outs
-outs_by (kind.Filter test reject) outs = with_rejects 1 reject
-outs_by (kind.Transform set reject) outs = with_rejects 1 reject
-outs_by (kind.Switch on cases reject) outs = with_rejects (length cases) reject
-outs_by (kind.Lookup key missing) outs = missing_outs missing
-outs_by k outs = 1
-
--- each link leaves an output that its producer has
-abbrev pub OutsLie : Chart → Type 0
-OutsLie c = (l : ℕ) → l < link_count c → (link_at c l).out < outs_by (op_at c (link_at c l).from).kind (length (links_from c (link_at c l).from))
-
 -- a row fits the fields of a link
 abbrev pub fits_at : Chart → ℕ → Row → Bool
 fits_at c l r = row_fits (fields_at c l) r
@@ -88,4 +68,4 @@ SinksAre c ops unwritable = (o : ℕ) → o < op_count c → IsExport (op_at c o
 
 -- Each operator of a shaped flow, as the stream of its code, works.
 abbrev pub KindsWork : Type 0
-KindsWork = (flow : Flow) (dict : List Stored) (c : Chart) (ops : ℕ → Op) (unwritable : ℕ → Row → List Fault) → ShapedFlow flow dict c ops → OutsLie c → SinksAre c ops unwritable → (o : ℕ) → o < op_count c → Works c (fits_at c) o (ops o) (stream_at c unwritable o)
+KindsWork = (flow : Flow) (dict : List Stored) (c : Chart) (ops : ℕ → Op) (unwritable : ℕ → Row → List Fault) → ShapedFlow flow dict c ops → LinksOutputs c → SinksAre c ops unwritable → (o : ℕ) → o < op_count c → Works c (fits_at c) o (ops o) (stream_at c unwritable o)

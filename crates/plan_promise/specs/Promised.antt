@@ -23,6 +23,7 @@ use Rattle.flow_graph.specs.Runs.{FitsDegree}
 use Rattle.flow_derive.specs.LinkStates.{choice_at}
 use Rattle.flow_rules.specs.declared.verdict.Verdict.TheVariants.{Accepted}
 use Rattle.flow_rules.specs.Verdicts.{IsVerdictBy, nodes_of}
+use Rattle.flow_links.specs.Outputs.{LinksOutputs}
 use Rattle.flow_sound.specs.Promise.{ShapedFlow, KeepsMeaning}
 use Rattle.core_laws.specs.Driven.{plan_shape}
 use Rattle.core_laws.specs.Untold.{AreRead, Stands}
@@ -30,7 +31,7 @@ use Rattle.flow_plan.specs.Data.{Datum}
 use Rattle.flow_plan.specs.Planned.{op_count, link_count, plan_of, ChoicesFit}
 use Rattle.plan_sound.specs.FlowRuns.{file_lane, lists_of}
 use Rattle.plan_sound.specs.Working.{IsFileOf}
-use Rattle.plan_promise.specs.KindStreams.{stream_at, OutsLie, SinksAre}
+use Rattle.plan_promise.specs.KindStreams.{stream_at, SinksAre}
 
 -- A written route stands where it may, and so does `same` where none is written.
 abbrev pub WrittenStands : Type 0
@@ -45,7 +46,7 @@ pub record Played (regains : Bool) (flow : Flow) (dict : List Stored) (c : Chart
   pub shaped : ShapedFlow flow dict c ops
   pub verdict : IsVerdictBy regains c (Accepted states choices)
   pub means : AllByRecursion (runs.Means whole) (nodes_of c ops)
-  pub outs : OutsLie c
+  pub outs : LinksOutputs c
   pub sinks : SinksAre c ops unwritable
   pub fit : ChoicesFit c (choice_at c) degree
   pub degrees : (o : ℕ) → o < op_count c → FitsDegree (ops o) (degree o)

@@ -1,8 +1,10 @@
 ghost use Rattle.plan_promise.specs.KindStreams.{KindsWork};
 ghost use Rattle.plan_promise.specs.Promised.{WrittenStands, ExecutionsKeep, FinishedKeeps, UntoldKeeps, RunsKeep, BatchesKeep, NodesFit};
 
-/// The operators that are built, as the streams of their code, work in a shaped flow, if each link
-/// leaves an output that its producer has, and the faults of an export are those of its stream.
+/// The operators that are built, as the streams of their code, work in a shaped flow.
+///
+/// Each output is to be on a link (`LinksOutputs`, as in each flow that is read), and what an
+/// export's stream finds are to be its faults (`SinksAre`).
 pub fn kinds_work()
     ensures { KindsWork }
 {}
@@ -11,10 +13,9 @@ pub fn kinds_work()
 /// state of the step core, with batches too, and where files tell nothing of what they still have;
 /// and so does a run that is over, by whatever it was run.
 ///
-/// What is asked besides a shape and a verdict has a name in `Played`: that each link leaves an
-/// output that its producer has, which no reader or shape gives yet; that the degrees are such as
-/// operators and routes ask; that an export's faults are its stream's; and that each source has
-/// its file. `stand` and `nodes` are for those who have to show that degrees and routes are so.
+/// What is asked besides shape and verdict has a name in `Played`: as in `kinds_work`, and that
+/// degrees are such as operators and routes ask, and that each source has its file. `stand` and
+/// `nodes` are for those who show that degrees and routes are so.
 pub fn executions_keep()
     ensures stand { WrittenStands }
     ensures nodes { NodesFit }
