@@ -1,0 +1,4 @@
+//! By which output each link of a flow leaves its producer.
+#![tactic(auto)]
+
+pub mod laws;

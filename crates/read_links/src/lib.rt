@@ -1,0 +1,4 @@
+//! What holds of the links of each flow that is read.
+#![tactic(auto)]
+
+pub mod laws;
