@@ -14,6 +14,8 @@ mod lines;
 #[cfg(test)]
 mod memory_files;
 #[cfg(test)]
+mod names;
+#[cfg(test)]
 mod packing;
 #[cfg(test)]
 mod places;

@@ -1,8 +1,11 @@
+ghost use Rattle.std.specs.Prelude.{All, IsTrue};
+ghost use Rattle.ds_schema.specs.Rows.{KeyInWidth};
+
 use ds_lex::{Cursor, LexedText, Mode, lex};
 use ds_schema::{
-    Key, KeyList, Row, Schema, SchemaFault, SchemaWhy, compare_rows, copy_row, parse_field,
-    parse_name, print_keys, print_names, print_schema, project, read_keys, read_names, read_schema,
-    size_of,
+    Key, KeyList, Row, Schema, SchemaFault, SchemaWhy, compare_rows, copy_row, key_cmp, key_equal,
+    parse_field, parse_keys, parse_name, parse_names, parse_schema, print_keys, print_names,
+    print_schema, project, read_keys, read_names, read_schema, size_of,
 };
 use ds_value::{Bytes, Kind, Value};
 use std::alloc::Global;
@@ -37,6 +40,51 @@ fn rows_in_order(rt: HostRuntime) -> Result<(), Fail> {
     assert!(rt; compare_rows(&keys, &row, &greater) == Ordering::Greater);
     let same_first = pair(alloc, 1, Value::Date(0))?;
     assert!(rt; compare_rows(&keys, &row, &same_first) == Ordering::Less);
+    Ok(())
+}
+
+/// Whether a row has the keys' columns.
+fn has_columns(keys: &KeyList, row: &Row) -> bool
+    ensures { IsTrue result → All (KeyInWidth row.now) keys.now }
+{
+    let width = row.as_slice().len();
+    keys.as_slice().iter().all(|key| (key.col as usize) < width)
+}
+
+/// Two rows of a whole number and a date or a null, and their order by the keys.
+static ORDERS: [((i64, Option<i32>), (i64, Option<i32>), Ordering); 7] = [
+    ((1, None), (1, None), Ordering::Equal),
+    ((1, Some(8)), (1, Some(8)), Ordering::Equal),
+    ((1, None), (2, Some(8)), Ordering::Greater),
+    ((2, Some(8)), (1, None), Ordering::Less),
+    ((1, None), (1, Some(8)), Ordering::Less),
+    ((1, Some(9)), (1, Some(8)), Ordering::Greater),
+    ((-1, Some(9)), (0, Some(8)), Ordering::Greater),
+];
+
+fn dated(alloc: Global, plain: &(i64, Option<i32>)) -> Result<Row, Fail> {
+    match plain {
+        (first, Some(day)) => pair(alloc, *first, Value::Date(*day)),
+        (first, None) => pair(alloc, *first, Value::Null),
+    }
+}
+
+fn has_order(keys: &KeyList, a: &Row, b: &Row, order: Ordering) -> bool {
+    has_columns(keys, a)
+        && has_columns(keys, b)
+        && key_cmp(keys, a, b) == order
+        && key_equal(keys, a, b) == order.is_eq()
+}
+
+#[test]
+fn orders_by_keys(rt: HostRuntime) -> Result<(), Fail> {
+    let alloc = rt.alloc();
+    let keys = keys(alloc)?;
+    for (first, second, order) in &ORDERS {
+        let a = dated(alloc, first)?;
+        let b = dated(alloc, second)?;
+        assert!(rt; has_order(&keys, &a, &b, *order), "{first:?} {second:?}");
+    }
     Ok(())
 }
 
@@ -274,5 +322,83 @@ fn parts(rt: HostRuntime) -> Result<(), Fail> {
         size_of(0, u32::MAX, b"4294967295") == Some(u32::MAX)
             && size_of(0, u32::MAX, b"4294967296").is_none()
     );
+    Ok(())
+}
+
+/// How a list or a schema is printed, and how many tokens stand behind it.
+type Front = Option<(&'static str, usize)>;
+
+/// Tokens, and the column list and the key list at their front.
+static FRONTS: [(&str, Front, Front); 10] = [
+    ("a", Some(("a", 0)), Some(("a", 0))),
+    ("a,b.c = d", Some(("a,b.c", 2)), Some(("a,b.c", 2))),
+    ("a desc,b;", Some(("a", 4)), Some(("a desc,b", 1))),
+    ("a,b desc desc", Some(("a,b", 2)), Some(("a,b desc", 1))),
+    ("a b", Some(("a", 1)), Some(("a", 1))),
+    ("a,b,a", None, None),
+    ("a desc,a", Some(("a", 3)), None),
+    ("a,;", None, None),
+    ("1", None, None),
+    ("", None, None),
+];
+
+/// Tokens, and the schema at their front.
+static SCHEMAS: [(&str, Front); 7] = [
+    ("record(a:date)", Some(("record ( a: date; )", 0))),
+    ("record ( a: date; ) b ;", Some(("record ( a: date; )", 2))),
+    ("record ( a: date ) )", Some(("record ( a: date; )", 1))),
+    ("record ( a: date ;", None),
+    ("record ( )", None),
+    ("( a: date )", None),
+    ("", None),
+];
+
+fn is_front(printed: Option<(Bytes, usize)>, front: &Front) -> bool {
+    match (printed, front) {
+        (Some((text, left)), Some((wanted, behind))) => {
+            text.as_slice() == wanted.as_bytes() && left == *behind
+        }
+        (None, None) => true,
+        _ => false,
+    }
+}
+
+fn names_in_front(alloc: Global, text: &str) -> Result<Option<(Bytes, usize)>, Fail> {
+    let LexedText { lexemes, .. } = lex(alloc, Mode::Inner, text.as_bytes())?;
+    let mut cursor = Cursor::new(&lexemes);
+    match parse_names(alloc, &mut cursor, ()) {
+        Ok(names) => Ok(Some((print_names(alloc, names.as_slice())?, cursor.rest().len()))),
+        Err(_) => Ok(None),
+    }
+}
+
+fn keys_in_front(alloc: Global, text: &str) -> Result<Option<(Bytes, usize)>, Fail> {
+    let LexedText { lexemes, .. } = lex(alloc, Mode::Inner, text.as_bytes())?;
+    let mut cursor = Cursor::new(&lexemes);
+    match parse_keys(alloc, &mut cursor, ()) {
+        Ok(keys) => Ok(Some((print_keys(alloc, keys.as_slice())?, cursor.rest().len()))),
+        Err(_) => Ok(None),
+    }
+}
+
+fn schema_in_front(alloc: Global, text: &str) -> Result<Option<(Bytes, usize)>, Fail> {
+    let LexedText { lexemes, .. } = lex(alloc, Mode::Inner, text.as_bytes())?;
+    let mut cursor = Cursor::new(&lexemes);
+    match parse_schema(alloc, &mut cursor) {
+        Ok(schema) => Ok(Some((print_schema(alloc, &schema)?, cursor.rest().len()))),
+        Err(_) => Ok(None),
+    }
+}
+
+#[test]
+fn fronts(rt: HostRuntime) -> Result<(), Fail> {
+    let alloc = rt.alloc();
+    for (text, names, keys) in &FRONTS {
+        assert!(rt; is_front(names_in_front(alloc, text)?, names), "{text}");
+        assert!(rt; is_front(keys_in_front(alloc, text)?, keys), "{text}");
+    }
+    for (text, schema) in &SCHEMAS {
+        assert!(rt; is_front(schema_in_front(alloc, text)?, schema), "{text}");
+    }
     Ok(())
 }
