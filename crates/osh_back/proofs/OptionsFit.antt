@@ -36,7 +36,8 @@ use Rattle.osh_table.specs.declared.option.Form.TheVariants as form
 use Rattle.osh_table.specs.Words.{option_word}
 use Rattle.osh_table.specs.Options.{row, row_named}
 use Rattle.osh_value.specs.declared.value.OptValue.TheVariants as value
-use Rattle.osh_print.specs.OptionText.{has_quote, quote_of, with_commas, pair_text, missing_word, name_of}
+use Rattle.osh_print.specs.OptionText.{has_quote, quote_of, with_commas, pair_text, name_of}
+use Rattle.osh_value.specs.ValueGrammar.{missing_word}
 use Rattle.osh_sound.specs.Grammar.{WrittenOption}
 use Rattle.osh_sound.specs.ValueLaws.{agg_text, IsColumn, IsPair, IsResult, ArePairs, AreCases, AreColumns, AreKeys}
 use Rattle.osh_sound.specs.OptionLaws.{IsQuotable, OptionFits}

@@ -23,7 +23,7 @@ use Rattle.ds_schema.specs.ColumnText.{desc_text, key_text, names_text, keys_tex
 use Rattle.ds_schema.proofs.SchemaPrinted.{and_none, ends_any}
 use Rattle.ds_schema.proofs.SizeReaders.{digits_all}
 use Rattle.osh_print.specs.LinkText.{link_name}
-use Rattle.osh_sound.specs.Grammar.{sign}
+use Rattle.osh_value.specs.ValueGrammar.{sign}
 use Rattle.osh_sound.specs.ValueLaws.{AreColumns, AreKeys}
 
 -- ---- phrases

@@ -70,7 +70,7 @@ sound_behind mode bytes (t ∷ ts) rest s h = subst (SoundIn mode) h.1 s.1
 -- ---- lists
 
 -- what holds of each that was read, and the tokens behind it
-abbrev Each : {X : Type 0} → Mode → (X → Type 0) → (X → Phrase) → Type 0
+abbrev pub Each : {X : Type 0} → Mode → (X → Type 0) → (X → Phrase) → Type 0
 Each {X} mode P one = (x : X) (ts rest : List Lexeme) → SoundIn mode ts → one x ts rest → P x × SoundIn mode rest
 
 further_each : {X : Type 0} (mode : Mode) (P : X → Type 0) (one : X → Phrase) → Each mode P one → (xs : List X) (ts rest : List Lexeme) → SoundIn mode ts → further one xs ts rest → AllByRecursion P xs
@@ -80,11 +80,11 @@ further_each mode P one f (x ∷ xs) ts rest s h =
     let here = f x h.0 h.2.0 comma h.2.1 in
     (here.0, further_each mode P one f xs h.2.0 rest here.1 h.2.2)
 
-listed_each : {X : Type 0} (mode : Mode) (P : X → Type 0) (one : X → Phrase) → Each mode P one → (xs : List X) (ts rest : List Lexeme) → SoundIn mode ts → listed one xs ts rest → (1 ≤ length xs) × AllByRecursion P xs
+pub listed_each : {X : Type 0} (mode : Mode) (P : X → Type 0) (one : X → Phrase) → Each mode P one → (xs : List X) (ts rest : List Lexeme) → SoundIn mode ts → listed one xs ts rest → (1 ≤ length xs) × AllByRecursion P xs
 listed_each mode P one f [] ts rest s h = absurd h
 listed_each mode P one f (x ∷ xs) ts rest s h = let here = f x ts h.0 s h.1 in (omega arith, (here.0, further_each mode P one f xs h.0 rest here.1 h.2))
 
-one_name : (mode : Mode) → Each mode IsWord name_phrase
+pub one_name : (mode : Mode) → Each mode IsWord name_phrase
 one_name mode name [] rest s h = absurd h
 one_name mode name (t ∷ ts) rest s h = (subst IsWord h.1 (word_at mode t s.0 h.0), subst (SoundIn mode) h.2 s.1)
 

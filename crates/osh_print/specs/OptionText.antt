@@ -16,6 +16,7 @@ use Rattle.osh_table.specs.declared.operator.OpName.TheVariants as op
 use Rattle.osh_table.specs.declared.option.OptName.{OptName}
 use Rattle.osh_table.specs.declared.option.OptName.TheVariants as opt
 use Rattle.osh_table.specs.Words.{option_word}
+use Rattle.osh_value.specs.ValueGrammar.{missing_word}
 
 -- ---- values
 
@@ -40,12 +41,6 @@ pair_text pair = pair.0 ++ (codes "=" ++ pair.1)
 -- the field as in a schema, then its expression
 abbrev pub set_text : SetSpec → List ℕ
 set_text s = s.field.name ++ (codes ": " ++ (nullable_text s.field.nullable ++ (kind_text s.field.kind ++ (codes " = " ++ s.expr))))
-
-abbrev pub missing_word : Missing → List ℕ
-missing_word missing.Continue = codes "continue"
-missing_word missing.Drop = codes "drop"
-missing_word missing.Fail = codes "fail"
-missing_word missing.Reject = codes "reject"
 
 -- ---- options
 

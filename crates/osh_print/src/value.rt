@@ -3,7 +3,8 @@
 ghost use Rattle.std.specs.Prelude.{◌≡◌, ◌++◌, ◌∷◌, [], OnOk, IfOk, string_bytes};
 ghost use Rattle.std.specs.Fmt.{decimal, signed_decimal};
 ghost use Rattle.ds_schema.specs.SchemaText.{kind_text};
-ghost use Rattle.osh_print.specs.OptionText.{has_quote, missing_word, option_text, pair_text, quote_of, quoted, set_text, with_commas};
+ghost use Rattle.osh_print.specs.OptionText.{has_quote, option_text, pair_text, quote_of, quoted, set_text, with_commas};
+ghost use Rattle.osh_value.specs.ValueGrammar.{missing_word};
 
 use ds_value::{Bytes, Kind, Name, NoMemory};
 use flow_graph::SetSpec;

@@ -1,30 +1,16 @@
 -- Options as an operator can have them, and marks, of what is spelled.
-use Rattle.std.proofs.Common.{◌≡◌, inl, inr, ℕ, ℤ, List, [], ◌∷◌, map, Bool, true, false, Result, Ok, Err, Option, Some, None, refl, sym, ap, ◌∙◌, subst, arith}
-use Rattle.std.specs.Prelude.{if◌then◌else◌, ◌==◌, ◌||◌}
-use Rattle.std.proofs.lemmas.Bool.Decides.{nat_tests}
-use Rattle.std.specs.Option.{option_map}
+use Rattle.std.proofs.Common.{◌≡◌, inl, inr, ℕ, ℤ, List, [], ◌∷◌, map, Bool, true, false, Option, Some, None, refl, sym, subst, arith}
+use Rattle.std.specs.Prelude.{if◌then◌else◌, ◌==◌}
 use Rattle.std.specs.List.{AllByRecursion, cons_option}
-use Rattle.op_base.specs.declared.missing.Missing.{Missing}
-use Rattle.ds_lex.specs.declared.token.Mode.TheVariants.{Inner}
-use Rattle.ds_lex.specs.declared.refusal.Refusal.{Refusal}
-use Rattle.ds_lex.specs.Lexemes.{Lexeme, lexed_text}
-use Rattle.ds_lex.specs.Reading.{finish_at}
-use Rattle.ds_lex.proofs.Readers.{bind_ok}
-use Rattle.ds_schema.specs.declared.schema.Field.{Field}
-use Rattle.ds_schema.specs.declared.schema_text.fault.SchemaFault.{SchemaFault}
+use Rattle.ds_lex.specs.Lexemes.{Lexeme}
 use Rattle.ds_schema.specs.Schemas.{IsField, IsFieldName}
-use Rattle.ds_schema.specs.SchemaReading.{schema_of}
 use Rattle.ds_schema.specs.ColumnGrammar.{key_name}
 use Rattle.ds_schema.specs.ColumnGrammar as columns
-use Rattle.ds_schema.specs.ColumnReading.{is_name, names_at, keys_at}
-use Rattle.ds_schema.proofs.ListReaders.{ok_parts}
-use Rattle.ds_schema.proofs.ColumnLists.{keys_stand}
 use Rattle.ds_text.specs.Forms.{IsDelimiter, IsWidth}
 use Rattle.flow_graph.specs.declared.flow.Mark.{Mark}
 use Rattle.flow_graph.specs.declared.flow.Mark.TheVariants as mark
 use Rattle.op_row.specs.Expressed.{AreDistinct}
 use Rattle.flow_graph.specs.declared.op_kind.AggSpec.{AggSpec}
-use Rattle.flow_graph.specs.declared.op_kind.AggSpec.TheVariants as agg
 use Rattle.flow_graph.specs.declared.op_kind.SetSpec.{SetSpec}
 use Rattle.flow_graph.specs.declared.op_kind.OpKind.{OpKind}
 use Rattle.flow_graph.specs.declared.op_kind.OpKind.TheVariants as kind
@@ -40,12 +26,12 @@ use Rattle.osh_table.specs.declared.option.Form.TheVariants as form
 use Rattle.osh_value.specs.declared.value.OptValue.{OptValue}
 use Rattle.osh_value.specs.declared.value.OptValue.TheVariants as value
 use Rattle.osh_value.specs.declared.setting.Setting.{Setting}
-use Rattle.osh_value.specs.Values.{content_of, file_value, schema_value, delim_value, missing_named, kept_expression, set_value, new_name_at, rename_at, renames_at, cases_at, widths_at, said_at, whole_at, if_read, unless_bad, inside, value_of}
+use Rattle.osh_value.specs.Values.{content_of}
 use Rattle.osh_value.specs.Kinds.{number_of, found_value, stands, name_in, schema_in, delim_in, widths_in, keys_in, renames_in, expression_in, cases_in, result_in, results_of, set_in, sets_of, with_value, transform_by, kind_of}
 use Rattle.osh_read.specs.Stages.{plain_mark, bears}
+use Rattle.osh_value.specs.ValueGrammar.{SpellsValue}
 use Rattle.osh_sound.specs.Grammar.{WrittenOption, setting_of, value_phrase, options_phrase, mark_word, mark_phrase}
 use Rattle.osh_sound.specs.Sound.{AreWidths, FormStands, MarkFits}
-use Rattle.osh_sound.proofs.ListsKeep.{widths_good, renames_good, cases_good, new_name_good, rename_good, set_good}
 
 some_is : {A : Type 0} (x y : A) → (let o : Option A = Some x in o) ≡ Some y → x ≡ y
 some_is x y h = cc
@@ -68,104 +54,32 @@ pub differ : (keys : List (List ℕ × Bool)) → columns.NamesDiffer key_name k
 differ [] d = tt
 differ (k ∷ keys) d = (d.0, differ keys d.1)
 
-made_good : (v w : OptValue) (us rest : List Lexeme) → GoodValue v → (let r : Result (OptValue × List Lexeme) (Refusal (Unit {0})) = Ok (v, us) in r) ≡ Ok (w, rest) → GoodValue w
-made_good v w us rest g h = subst GoodValue (ok_parts (v, us) (w, rest) h).0 g
-
-said_good : (f : Form) (ts rest : List Lexeme) (v : OptValue) → said_at f ts ≡ Ok (v, rest) → GoodValue v
-said_good form.Widths ts rest v h = let a = bind_ok (widths_at ts) _ (v, rest) h in made_good (value.Widths a.0.0) v a.0.1 rest (widths_good ts a.0.1 a.0.0 a.1) a.2
-said_good form.Columns ts rest v h = let a = bind_ok (names_at {W = Unit {0}} tt ts) _ (v, rest) h in made_good (value.Columns a.0.0) v a.0.1 rest tt a.2
-said_good form.Keys ts rest v h = let a = bind_ok (keys_at {W = Unit {0}} tt ts) _ (v, rest) h in made_good (value.Keys a.0.0) v a.0.1 rest (differ a.0.0 (keys_stand tt ts a.0.1 a.0.0 a.1).0.differ) a.2
-said_good form.Renames ts rest v h = let a = bind_ok (renames_at ts) _ (v, rest) h in made_good (value.Renames a.0.0) v a.0.1 rest (renames_good ts a.0.1 a.0.0 a.1) a.2
-said_good form.Cases ts rest v h = let a = bind_ok (cases_at ts) _ (v, rest) h in made_good (value.Cases a.0.0) v a.0.1 rest (cases_good ts a.0.1 a.0.0 a.1) a.2
-said_good form.Count ts rest v h = let a = bind_ok (new_name_at ts) _ (v, rest) h in made_good (value.Result (agg.Count a.0.0)) v a.0.1 rest (new_name_good ts a.0.1 a.0.0 a.1) a.2
-said_good form.Sum ts rest v h = let a = bind_ok (rename_at [] ts) _ (v, rest) h in made_good (value.Result (agg.Sum a.0.0.0 a.0.0.1)) v a.0.1 rest (rename_good [] ts a.0.1 a.0.0 a.1) a.2
-said_good form.Min ts rest v h = let a = bind_ok (rename_at [] ts) _ (v, rest) h in made_good (value.Result (agg.Min a.0.0.0 a.0.0.1)) v a.0.1 rest (rename_good [] ts a.0.1 a.0.0 a.1) a.2
-said_good form.Max ts rest v h = let a = bind_ok (rename_at [] ts) _ (v, rest) h in made_good (value.Result (agg.Max a.0.0.0 a.0.0.1)) v a.0.1 rest (rename_good [] ts a.0.1 a.0.0 a.1) a.2
-said_good form.First ts rest v h = let a = bind_ok (rename_at [] ts) _ (v, rest) h in made_good (value.Result (agg.First a.0.0.0 a.0.0.1)) v a.0.1 rest (rename_good [] ts a.0.1 a.0.0 a.1) a.2
-said_good form.Last ts rest v h = let a = bind_ok (rename_at [] ts) _ (v, rest) h in made_good (value.Result (agg.Last a.0.0.0 a.0.0.1)) v a.0.1 rest (rename_good [] ts a.0.1 a.0.0 a.1) a.2
-said_good other ts rest v h = absurd cc
-
-whole_good : (f : Form) (ts : List Lexeme) (v : OptValue) → whole_at f ts ≡ Ok v → GoodValue v
-unfolding whole_at
-whole_good f ts v h =
-    let a = bind_ok (said_at f ts) _ v h in
-    let b = bind_ok (finish_at tt a.0.1) _ v a.2 in
-    let e : a.0.0 ≡ v = (let k = b.2 in cc) in
-    subst GoodValue e (said_good f ts a.0.1 a.0.0 a.1)
-
-read_good : (f : Form) (ts : List Lexeme) (v : OptValue) (r : Result OptValue (Refusal (Unit {0}))) → whole_at f ts ≡ r → if_read r ≡ Some v → GoodValue v
-read_good f ts v (Ok x) e h = whole_good f ts v (e ∙ ap (λ y. Ok y) (some_is x v h))
-read_good f ts v (Err d) e h = absurd cc
-
-inside_by : (f : Form) (ts : List Lexeme) (v : OptValue) (bad : Option ℕ) → unless_bad bad (if_read (whole_at f ts)) ≡ Some v → GoodValue v
-inside_by f ts v None h = read_good f ts v (whole_at f ts) refl h
-inside_by f ts v (Some at) h = absurd cc
-
-inside_good : (f : Form) (bytes : List ℕ) (v : OptValue) → inside f bytes ≡ Some v → GoodValue v
-inside_good f bytes v h = inside_by f (lexed_text Inner bytes).lexemes v (lexed_text Inner bytes).bad h
-
-if_good : (b : Bool) (x v : OptValue) → GoodValue x → (let o : Option OptValue = if b then Some x else None in o) ≡ Some v → GoodValue v
-if_good true x v g h = subst GoodValue (some_is x v h) g
-if_good false x v g h = absurd cc
-
-data_set_good : (b : Bool) (bytes : List ℕ) (v : OptValue) → (if b then file_value bytes else None) ≡ Some v → GoodValue v
-data_set_good true bytes v h = if_good (is_name bytes) (value.Name bytes) v tt h
-data_set_good false bytes v h = absurd cc
-
-schema_good : (r : Result (List Field) SchemaFault) (v : OptValue) → schema_value r ≡ Some v → GoodValue v
-schema_good (Ok fields) v h = subst GoodValue (some_is (value.Schema fields) v h) tt
-schema_good (Err e) v h = absurd cc
-
-no_delimiter : (d : ℕ) → ((d == 10) || (d == 13) || (d == 34)) ≡ false → IsDelimiter d
-no_delimiter d e = record { no_end = λ f. absurd (grind (arith, nat_tests, e, f)); no_return = λ f. absurd (grind (arith, nat_tests, e, f)); no_quote = λ f. absurd (grind (arith, nat_tests, e, f)) }
-
-delim_by : (b : Bool) (d : ℕ) (v : OptValue) → ((d == 10) || (d == 13) || (d == 34)) ≡ b → (let o : Option OptValue = if b then None else Some (value.Delim d) in o) ≡ Some v → GoodValue v
-delim_by true d v e h = absurd cc
-delim_by false d v e h = subst GoodValue (some_is (value.Delim d) v h) (no_delimiter d e)
-
-delim_good : (bytes : List ℕ) (v : OptValue) → delim_value bytes ≡ Some v → GoodValue v
-delim_good [] v h = absurd cc
-delim_good (b ∷ []) v h = delim_by ((b == 10) || (b == 13) || (b == 34)) b v refl h
-delim_good (b ∷ c ∷ bytes) v h = absurd cc
-
-missing_good : (o : Option Missing) (v : OptValue) → option_map value.Missing o ≡ Some v → GoodValue v
-missing_good None v h = absurd cc
-missing_good (Some m) v h = subst GoodValue (some_is (value.Missing m) v h) tt
-
-expression_good : (o : Option (List ℕ)) (v : OptValue) → option_map value.Expression o ≡ Some v → GoodValue v
-expression_good None v h = absurd cc
-expression_good (Some expr) v h = subst GoodValue (some_is (value.Expression expr) v h) tt
-
-setting_good : (o : Option SetSpec) (v : OptValue) → ((set : SetSpec) → o ≡ Some set → IsField set.field) → option_map value.Set o ≡ Some v → GoodValue v
-setting_good None v f h = absurd cc
-setting_good (Some set) v f h = subst GoodValue (some_is (value.Set set) v h) (f set refl)
-
-value_good : (f : Form) (bytes : List ℕ) (v : OptValue) → value_of f bytes ≡ Some v → GoodValue v
-unfolding value_of
-value_good form.Flag bytes v h = absurd cc
-value_good form.File bytes v h = if_good (is_name bytes) (value.Name bytes) v tt h
-value_good form.DataSet bytes v h = data_set_good _ bytes v h
-value_good form.Schema bytes v h = schema_good (schema_of bytes) v h
-value_good form.Delim bytes v h = delim_good bytes v h
-value_good form.Missing bytes v h = missing_good (missing_named bytes) v h
-value_good form.Expression bytes v h = expression_good (kept_expression bytes) v h
-value_good form.Setting bytes v h = setting_good (set_value bytes) v (λ set e. set_good bytes set e) h
-value_good form.Cases bytes v h = inside_good form.Cases bytes v h
-value_good form.Widths bytes v h = inside_good form.Widths bytes v h
-value_good form.Columns bytes v h = inside_good form.Columns bytes v h
-value_good form.Renames bytes v h = inside_good form.Renames bytes v h
-value_good form.Keys bytes v h = inside_good form.Keys bytes v h
-value_good form.Sum bytes v h = inside_good form.Sum bytes v h
-value_good form.Count bytes v h = inside_good form.Count bytes v h
-value_good form.Min bytes v h = inside_good form.Min bytes v h
-value_good form.Max bytes v h = inside_good form.Max bytes v h
-value_good form.First bytes v h = inside_good form.First bytes v h
-value_good form.Last bytes v h = inside_good form.Last bytes v h
+-- what is spelled is good
+spelled_good : (f : Form) (bytes : List ℕ) (v : OptValue) → SpellsValue f bytes v → GoodValue v
+spelled_good form.Flag bytes v h = absurd h
+spelled_good form.File bytes v h = subst GoodValue (sym h.2) tt
+spelled_good form.DataSet bytes v h = subst GoodValue (sym h.2) tt
+spelled_good form.Schema bytes v h = subst GoodValue (sym h.2) tt
+spelled_good form.Delim bytes v h = subst GoodValue (sym h.2) h.1.1
+spelled_good form.Widths bytes v h = subst GoodValue (sym h.2) h.1.1.0
+spelled_good form.Columns bytes v h = subst GoodValue (sym h.2) tt
+spelled_good form.Keys bytes v h = subst GoodValue (sym h.2) (differ h.0 h.1.1.0.differ)
+spelled_good form.Renames bytes v h = subst GoodValue (sym h.2) h.1.1.0
+spelled_good form.Cases bytes v h = subst GoodValue (sym h.2) h.1.1.1
+spelled_good form.Count bytes v h = subst GoodValue (sym h.2) h.1.1.0
+spelled_good form.Sum bytes v h = subst GoodValue (sym h.2) h.1.1.0
+spelled_good form.Min bytes v h = subst GoodValue (sym h.2) h.1.1.0
+spelled_good form.Max bytes v h = subst GoodValue (sym h.2) h.1.1.0
+spelled_good form.First bytes v h = subst GoodValue (sym h.2) h.1.1.0
+spelled_good form.Last bytes v h = subst GoodValue (sym h.2) h.1.1.0
+spelled_good form.Missing bytes v h = subst GoodValue (sym h.2) tt
+spelled_good form.Expression bytes v h = subst GoodValue (sym h.2) tt
+spelled_good form.Setting bytes v h = subst GoodValue (sym h.2) h.1.field
 
 phrase_good : (f : Form) (v : OptValue) (ts rest : List Lexeme) → value_phrase f v ts rest → GoodValue v
 phrase_good form.Flag v ts rest h = subst GoodValue (sym h.0) tt
 phrase_good f v [] rest h = absurd h
-phrase_good f v (t ∷ ts) rest h = value_good f (content_of t) v h.1
+phrase_good f v (t ∷ ts) rest h = spelled_good f (content_of t) v h.1
 
 -- ---- options
 

@@ -3,7 +3,6 @@ pub mod MethodsHold
 pub mod OptionsHold
 pub mod StagesHold
 pub mod FlowsHold
-pub mod ListsKeep
 pub mod KindsKeep
 pub mod JoinsKeep
 pub mod FlowsKeep

@@ -23,6 +23,7 @@ use Rattle.osh_value.specs.declared.value.OptValue.TheVariants as value
 use Rattle.osh_value.specs.declared.setting.Setting.{Setting}
 use Rattle.osh_value.specs.Values.{value_of, content_of}
 use Rattle.osh_value.specs.Kinds.{kind_of}
+use Rattle.osh_value.proofs.ValuesSpelled.{value_spelled}
 use Rattle.osh_read.specs.declared.fault.OshWhy.{OshWhy}
 use Rattle.osh_read.specs.declared.fault.OshWhy.TheVariants as why
 use Rattle.osh_read.specs.Reading.{Read, repeated, append, if_comes}
@@ -44,7 +45,7 @@ flag_value other v ts rest h e r = absurd cc
 said_value : (f : Form) (v : OptValue) (t : Lexeme) (ts rest : List Lexeme) → is_value t.sort ≡ true → value_of f (content_of t) ≡ Some v → ts ≡ rest → value_phrase f v (t ∷ ts) rest
 unfolding value_of
 said_value form.Flag v t ts rest s e r = absurd cc
-said_value other v t ts rest s e r = (s, e, r)
+said_value other v t ts rest s e r = (s, value_spelled other (content_of t) v e, r)
 
 no_value : (f : Form) (v : OptValue) (ts rest : List Lexeme) (b : Bool) → is_flag f ≡ b → (let r : Read OptValue = if b then Ok (value.Flag, ts) else Err refusal.AtEnd in r) ≡ Ok (v, rest) → value_phrase f v ts rest
 no_value f v ts rest true e h = let k = ok_parts (value.Flag, ts) (v, rest) h in flag_value f v ts rest e (sym k.0) k.1

@@ -25,7 +25,8 @@ use Rattle.osh_table.specs.Words.{option_word}
 use Rattle.osh_table.specs.Options.{row_named}
 use Rattle.osh_value.specs.declared.value.OptValue.{OptValue}
 use Rattle.osh_value.specs.declared.value.OptValue.TheVariants as value
-use Rattle.osh_value.specs.Values.{unquoted, value_of}
+use Rattle.expr_read.specs.Reading.{content}
+use Rattle.osh_value.specs.ValueGrammar.{SpellsValue}
 use Rattle.osh_print.specs.OptionText.{has_quote, quote_of, quoted, option_text}
 use Rattle.osh_sound.specs.Grammar.{WrittenOption, said, value_phrase, option_phrase, options_phrase}
 use Rattle.osh_sound.specs.OptionLaws.{value_text, by_form, written_text, IsQuotable, ValueFits, OptionFits}
@@ -62,8 +63,8 @@ quoted_by bytes after false t h = quoted_is 34 bytes after t h ∙ ap (λ n. Som
 quoted_before : (bytes after : List ℕ) → IsQuotable bytes → piece_at Osh (quoted bytes ++ after) ≡ Some (Part sort.Quoted (length (quoted bytes)))
 quoted_before bytes after h = ap (λ (xs : List ℕ). piece_at Osh (quote_of bytes ∷ xs)) (append_assoc bytes (quote_of bytes ∷ []) after) ∙ quoted_by bytes after (has_quote bytes) h.texts h.quote
 
-unquoted_back : (q : ℕ) (bytes : List ℕ) → unquoted (q ∷ (bytes ++ q ∷ [])) ≡ bytes
-unquoted_back q bytes =
+content_back : (q : ℕ) (bytes : List ℕ) → content (q ∷ (bytes ++ q ∷ [])) ≡ bytes
+content_back q bytes =
     let l : length (q ∷ (bytes ++ q ∷ [])) - 1 ≡ suc (length bytes) = (let k = length-append bytes (q ∷ []) in omega arith) in
     rw l (take-append_seam bytes (q ∷ []))
 
@@ -117,11 +118,11 @@ opt_prints op row r =
     (λ after f. subst (λ (xs : List ℕ). piece_at Osh (xs ++ after) ≡ Some (Part sort.Opt (length xs))) (sym d.parts) (opt_before d.letter d.more after d.first d.each f))
 
 -- a value in quotes says it
-said_prints : (f : Form) (v : OptValue) → IsQuotable (value_text v) → value_of f (value_text v) ≡ Some v → Prints Osh (said f v) (quoted (value_text v)) After
+said_prints : (f : Form) (v : OptValue) → IsQuotable (value_text v) → SpellsValue f (value_text v) v → Prints Osh (said f v) (quoted (value_text v)) After
 said_prints f v q h front after ts a l =
     let x = quoted (value_text v) in
-    let content : unquoted x ≡ value_text v = unquoted_back (quote_of (value_text v)) (value_text v) in
-    (record { at = length front; sort = sort.Quoted; bytes = x } ∷ ts, lexes_token Osh sort.Quoted front x after ts (omega arith) (quoted_before (value_text v) after q) l, (refl, ap (value_of f) content ∙ h, refl))
+    let inside : content x ≡ value_text v = content_back (quote_of (value_text v)) (value_text v) in
+    (record { at = length front; sort = sort.Quoted; bytes = x } ∷ ts, lexes_token Osh sort.Quoted front x after ts (omega arith) (quoted_before (value_text v) after q) l, (refl, subst (λ (xs : List ℕ). SpellsValue f xs v) (sym inside) h, refl))
 
 blank_word : (op : OpName) (w : WrittenOption) → OptionFits op w → Prints Osh (token sort.Opt (λ bytes. row_named op bytes ≡ Some w.row)) (32 ∷ option_word w.row.opt) After
 blank_word op w h = blank_before Osh (token sort.Opt (λ bytes. row_named op bytes ≡ Some w.row)) 32 (option_word w.row.opt) After refl (opt_prints op w.row h.row)
@@ -130,10 +131,10 @@ blank_word op w h = blank_before Osh (token sort.Opt (λ bytes. row_named op byt
 flag_prints : (v : OptValue) → v ≡ value.Flag → Prints Osh (value_phrase form.Flag v) [] After
 flag_prints v e front after ts a l = (ts, subst (λ (xs : List ℕ). Lexes Osh xs after ts) (append-nil front) l, (e, refl))
 
-blank_value : (f : Form) (v : OptValue) → IsQuotable (value_text v) → value_of f (value_text v) ≡ Some v → Prints Osh (said f v) (32 ∷ quoted (value_text v)) After
+blank_value : (f : Form) (v : OptValue) → IsQuotable (value_text v) → SpellsValue f (value_text v) v → Prints Osh (said f v) (32 ∷ quoted (value_text v)) After
 blank_value f v q h = blank_before Osh (said f v) 32 (quoted (value_text v)) After refl (said_prints f v q h)
 
-valued : (op : OpName) (w : WrittenOption) (f : Form) → OptionFits op w → IsQuotable (value_text w.value) → value_of f (value_text w.value) ≡ Some w.value
+valued : (op : OpName) (w : WrittenOption) (f : Form) → OptionFits op w → IsQuotable (value_text w.value) → SpellsValue f (value_text w.value) w.value
     → Prints Osh (token sort.Opt (λ bytes. row_named op bytes ≡ Some w.row) ~ said f w.value) (option_text w.row.opt (value_text w.value)) After
 valued op w f h q e = prints_then Osh (token sort.Opt (λ bytes. row_named op bytes ≡ Some w.row)) (said f w.value) (32 ∷ option_word w.row.opt) (32 ∷ quoted (value_text w.value)) After After (blank_word op w h) (blank_value f w.value q e) (λ after k. refl)
 

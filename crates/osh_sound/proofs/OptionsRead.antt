@@ -15,7 +15,9 @@ use Rattle.osh_table.specs.Words.{operator_named}
 use Rattle.osh_table.specs.Options.{row_named}
 use Rattle.osh_value.specs.declared.value.OptValue.{OptValue}
 use Rattle.osh_value.specs.declared.setting.Setting.{Setting}
+use Rattle.osh_value.specs.Values.{content_of}
 use Rattle.osh_value.specs.Kinds.{kind_of}
+use Rattle.osh_value.proofs.ValuesSpelled.{spelled_value}
 use Rattle.osh_read.specs.declared.fault.OshWhy.TheVariants as why
 use Rattle.osh_read.specs.Reading.{repeated, append}
 use Rattle.osh_read.specs.Options.{is_value, is_opt, is_flag, value_comes, lacks_value, clashes, taken_at, setting_at, opt_at, next_setting_at, is_missing, lacks_option, head_at}
@@ -39,7 +41,7 @@ value_read form.Flag v (t ∷ ts) rest h n =
     let plain : is_value t.sort ≡ false = subst NoValue (sym h.1) n in
     rw (plain, h.0, ← h.1) refl
 value_read f v [] rest h n = absurd h
-value_read f v (t ∷ ts) rest h n = rw (h.0, h.1, h.2) refl
+value_read f v (t ∷ ts) rest h n = rw (h.0, spelled_value f (content_of t) v h.1, h.2) refl
 
 needs_by : (f : Form) (v : OptValue) (cut : Bool) (ts rest : List Lexeme) → value_phrase f v ts rest → (not (is_flag f) && (not (value_comes (first_of ts)) && not (cut && is_none (first_of ts)))) ≡ false
 needs_by form.Flag v cut ts rest h = refl

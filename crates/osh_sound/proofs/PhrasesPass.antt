@@ -17,7 +17,8 @@ use Rattle.osh_table.specs.declared.option.Form.TheVariants as form
 use Rattle.osh_value.specs.declared.value.OptValue.{OptValue}
 use Rattle.osh_read.specs.declared.stage.Redirect.{Redirect}
 use Rattle.osh_read.specs.declared.stage.Redirect.TheVariants as redirect
-use Rattle.osh_sound.specs.Grammar.{flag_word, name_form, kind_phrase, inside_phrase, method_phrase, WrittenOption, value_phrase, options_phrase, mark_word, mark_phrase, sign, redirect_phrase, redirects_phrase}
+use Rattle.osh_value.specs.ValueGrammar.{sign}
+use Rattle.osh_sound.specs.Grammar.{flag_word, name_form, kind_phrase, inside_phrase, method_phrase, WrittenOption, value_phrase, options_phrase, mark_word, mark_phrase, redirect_phrase, redirects_phrase}
 use Rattle.osh_sound.proofs.TokensSound.{AllSound}
 
 pub record Left (ts rest : List Lexeme) : Type 0 where

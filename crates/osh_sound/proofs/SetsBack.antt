@@ -1,22 +1,17 @@
 -- A printed set is read back.
-use Rattle.std.proofs.Common.{◌≡◌, ◌+◌, ℕ, List, [], ◌∷◌, ◌++◌, length, drop, Option, Some, None, Ok, Err, Result, refl, sym, ap, ◌∙◌, subst, append_assoc, arith, length-append}
+use Rattle.std.proofs.Common.{◌≡◌, ◌+◌, ℕ, List, [], ◌∷◌, ◌++◌, length, drop, Some, Ok, refl, sym, ap, ◌∙◌, subst, append_assoc, arith, length-append}
 use Rattle.std.specs.Prelude.{codes}
 use Rattle.std.proofs.Math.Seq.{drop-append_seam}
 use Rattle.ds_lex.specs.declared.token.Mode.TheVariants.{Inner}
 use Rattle.ds_lex.specs.declared.token.Sort.TheVariants as sort
-use Rattle.ds_lex.specs.declared.refusal.Refusal.{Refusal}
-use Rattle.ds_lex.specs.Lexemes.{Lexeme, lexed_text}
+use Rattle.ds_lex.specs.Lexemes.{Lexeme}
 use Rattle.ds_lex.specs.Reading.{expect_at}
 use Rattle.ds_lex.proofs.Printed.{Lexes, lexes_token, lexes_gap}
-use Rattle.ds_lex.proofs.Readers.{lacks_other, bind_ok, read_holds}
+use Rattle.ds_lex.proofs.Readers.{lacks_other}
 use Rattle.ds_schema.specs.declared.schema.Field.{Field}
-use Rattle.ds_schema.specs.declared.schema_text.fault.SchemaWhy.{SchemaWhy}
-use Rattle.ds_schema.specs.declared.schema_text.fault.SchemaWhy.TheVariants as schema_why
 use Rattle.ds_schema.specs.Schemas.{IsField}
-use Rattle.ds_schema.specs.SchemaReading.{field_at}
 use Rattle.ds_schema.specs.SchemaGrammar.{field_phrase}
-use Rattle.ds_schema.proofs.ListReaders.{ok_parts}
-use Rattle.ds_schema.proofs.FieldReaders.{field_form, field_read, field_reads}
+use Rattle.ds_schema.proofs.FieldReaders.{field_read}
 use Rattle.flow_graph.specs.declared.op_kind.SetSpec.{SetSpec}
 use Rattle.osh_value.specs.Values.{kept_expression, target_at, set_by, set_to, set_value}
 use Rattle.osh_print.specs.OptionText.{set_text}
@@ -61,31 +56,3 @@ set_back s h =
     ap (λ (ts : List Lexeme). set_by (set_text s) (target_at ts)) l.tokens
     ∙ (ap (set_by (set_text s)) read
     ∙ (ap (λ (xs : List ℕ). set_to s.field (kept_expression xs)) rest ∙ ap (set_to s.field) (kept_behind s.expr h.1)))
-
--- ---- what is read
-
--- the column, and where its expression begins
-pub record IsReadSet (text : List ℕ) (s : SetSpec) : Type 0 where
-  pub field : IsField s.field
-  pub place : ℕ
-  pub expr : kept_expression (drop place text) ≡ Some s.expr
-
-target_field : (f : Field) (at : ℕ) (ts us : List Lexeme) → target_at ts ≡ Ok ((f, at), us) → IsField f
-unfolding target_at
-target_field f at ts us h =
-    let a = bind_ok (field_at [] ts) _ ((f, at), us) h in
-    let b = bind_ok (expect_at (codes "=") schema_why.Syntax a.0.1) _ ((f, at), us) a.2 in
-    let same : a.0.0 ≡ f = ap (λ (x : Field × ℕ). x.0) (ok_parts ((a.0.0, b.0.0.at), b.0.1) ((f, at), us) b.2).0 in
-    subst IsField same (read_holds (field_form []) (field_at []) (field_reads []) ts a.0.1 a.0.0 a.1).0
-
-set_from : (text : List ℕ) (f : Field) (place : ℕ) (s : SetSpec) (o : Option (List ℕ)) → kept_expression (drop place text) ≡ o → IsField f → set_to f o ≡ Some s → IsReadSet text s
-set_from text f place s None e i h = absurd cc
-set_from text f place s (Some expr) e i h = let same : record { field = f; expr = expr } ≡ s = cc in subst (IsReadSet text) same (record { field = i; place = place; expr = e })
-
-set_read_by : (text : List ℕ) (s : SetSpec) (ts : List Lexeme) (r : Result ((Field × ℕ) × List Lexeme) (Refusal SchemaWhy)) → target_at ts ≡ r → set_by text r ≡ Some s → IsReadSet text s
-set_read_by text s ts (Ok x) e h = set_from text x.0.0 (x.0.1 + 1) s (kept_expression (drop (x.0.1 + 1) text)) refl (target_field x.0.0 x.0.1 ts x.1 e) h
-set_read_by text s ts (Err d) e h = absurd cc
-
-pub set_read : (text : List ℕ) (s : SetSpec) → set_value text ≡ Some s → IsReadSet text s
-unfolding set_value
-set_read text s h = set_read_by text s (lexed_text Inner text).lexemes (target_at (lexed_text Inner text).lexemes) refl h

@@ -22,7 +22,8 @@ use Rattle.osh_read.specs.declared.stage.Joint.{Joint}
 use Rattle.osh_read.specs.declared.stage.Joint.TheVariants as joint
 use Rattle.osh_read.specs.Reading.{sign_at, repeated, append}
 use Rattle.osh_read.specs.Stages.{plain_mark, bears, mark_named, marked_at, mark_at, input_at, output_at, redirect_at, stage_at, piped_at, ended_at, joint_at}
-use Rattle.osh_sound.specs.Grammar.{method_phrase, mark_word, mark_phrase, sign, redirect_phrase, redirects_phrase, WrittenStage, stage_phrase, IsStage, joint_phrase, further_phrase}
+use Rattle.osh_value.specs.ValueGrammar.{sign}
+use Rattle.osh_sound.specs.Grammar.{method_phrase, mark_word, mark_phrase, redirect_phrase, redirects_phrase, WrittenStage, stage_phrase, IsStage, joint_phrase, further_phrase}
 use Rattle.osh_sound.proofs.TokensSound.{Sound, AllSound, Plain, sign_plain, word_other}
 use Rattle.osh_sound.proofs.PhrasesPass.{then_left, token_pass, method_pass, options_pass, mark_pass, redirect_pass}
 use Rattle.osh_sound.proofs.MethodsRead.{sort_reads, expect_reads, word_lacks, method_reads}

@@ -30,7 +30,8 @@ use Rattle.osh_table.specs.Options.{row_named}
 use Rattle.osh_value.specs.declared.value.OptValue.{OptValue}
 use Rattle.osh_value.specs.declared.value.OptValue.TheVariants as value
 use Rattle.osh_value.specs.declared.setting.Setting.{Setting}
-use Rattle.osh_value.specs.Values.{value_of, content_of}
+use Rattle.osh_value.specs.Values.{content_of}
+use Rattle.osh_value.specs.ValueGrammar.{SpellsValue, sign}
 use Rattle.osh_value.specs.Kinds.{kind_of}
 use Rattle.osh_read.specs.declared.stage.Redirect.{Redirect}
 use Rattle.osh_read.specs.declared.stage.Redirect.TheVariants as redirect
@@ -85,10 +86,10 @@ pub record WrittenOption : Type 0 where
 abbrev pub setting_of : WrittenOption → Setting
 setting_of w = record { opt = w.row.opt; group = w.row.group; value = w.value }
 
--- a WORD, NUMBER or QUOTED that says this, by the form
+-- a WORD, NUMBER or QUOTED whose content spells this value of the form
 abbrev pub said : Form → OptValue → Phrase
 said f v [] rest = ⊥
-said f v (t ∷ ts) rest = (is_value t.sort ≡ true) × (value_of f (content_of t) ≡ Some v) × (ts ≡ rest)
+said f v (t ∷ ts) rest = (is_value t.sort ≡ true) × SpellsValue f (content_of t) v × (ts ≡ rest)
 
 -- a flag has no value
 abbrev pub value_phrase : Form → OptValue → Phrase
@@ -118,11 +119,6 @@ mark_word mark.Stored = nothing_where ⊥
 -- where no mark is written the operator runs as it does without one
 abbrev pub mark_phrase : OpName → Mark → Phrase
 mark_phrase op m = (nothing_where (bears (plain_mark op) m ≡ true) ~ word (codes "[") ~ mark_word m ~ word (codes "]")) <|> nothing_where (m ≡ plain_mark op)
-
--- this word or sign, at this place
-abbrev pub sign : ℕ → List ℕ → Phrase
-sign at bytes [] rest = ⊥
-sign at bytes (t ∷ ts) rest = (t.at ≡ at) × (t.bytes ≡ bytes) × (ts ≡ rest)
 
 abbrev pub redirect_phrase : Redirect → Phrase
 redirect_phrase (redirect.In at name m f) = sign at (codes "<") ~ method_phrase m f ~ token sort.Word (λ bytes. bytes ≡ name)

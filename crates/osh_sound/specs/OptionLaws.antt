@@ -14,8 +14,8 @@ use Rattle.osh_table.specs.Words.{option_word}
 use Rattle.osh_table.specs.Options.{row_named}
 use Rattle.osh_value.specs.declared.value.OptValue.{OptValue}
 use Rattle.osh_value.specs.declared.value.OptValue.TheVariants as value
-use Rattle.osh_value.specs.Values.{value_of}
-use Rattle.osh_print.specs.OptionText.{with_commas, pair_text, set_text, missing_word, quote_of, option_text, flag_text}
+use Rattle.osh_value.specs.ValueGrammar.{SpellsValue, missing_word}
+use Rattle.osh_print.specs.OptionText.{with_commas, pair_text, set_text, quote_of, option_text, flag_text}
 use Rattle.osh_sound.specs.Grammar.{WrittenOption, options_phrase}
 use Rattle.osh_sound.specs.ValueLaws.{agg_text}
 
@@ -49,7 +49,7 @@ pub record IsQuotable (bytes : List ℕ) : Type 0 where
 
 abbrev pub ValueFits : Form → OptValue → Type 0
 ValueFits form.Flag v = v ≡ value.Flag
-ValueFits f v = IsQuotable (value_text v) × (value_of f (value_text v) ≡ Some v)
+ValueFits f v = IsQuotable (value_text v) × SpellsValue f (value_text v) v
 
 -- an option of the operator, with a value of its form that can be spelled
 pub record OptionFits (op : OpName) (w : WrittenOption) : Type 0 where

@@ -1,5 +1,5 @@
--- What the printed value of an option is read as.
-use Rattle.std.specs.Prelude.{◌≡◌, ◌≤◌, ℕ, ℤ, FitsSigned, Bool, false, ◌==◌, ◌||◌, List, [], ◌∷◌, ◌++◌, length, Some}
+-- What the printed value of an option spells.
+use Rattle.std.specs.Prelude.{◌≡◌, ◌≤◌, ℕ, ℤ, FitsSigned, Bool, false, ◌==◌, ◌||◌, List, [], ◌∷◌, length}
 use Rattle.std.specs.List.{AllByRecursion}
 use Rattle.std.specs.Fmt.{decimal, signed_decimal}
 use Rattle.std.specs.Int.{w64}
@@ -11,7 +11,7 @@ use Rattle.ds_lex.specs.Lexemes.{lexed_text}
 use Rattle.ds_lex.specs.Tokens.{IsWord}
 use Rattle.ds_schema.specs.Schemas.{IsFieldName, IsField, IsSchema}
 use Rattle.ds_schema.specs.SchemaText.{schema_text}
-use Rattle.ds_schema.specs.ColumnGrammar.{AreNamed, itself, key_name}
+use Rattle.ds_schema.specs.ColumnGrammar.{AreNamed, NamesDiffer, itself, key_name}
 use Rattle.ds_schema.specs.ColumnText.{names_text, keys_text}
 use Rattle.expr_read.specs.declared.tree.Expr.{Expr}
 use Rattle.expr_read.specs.Grammar.{IsSpelled}
@@ -21,8 +21,10 @@ use Rattle.flow_graph.specs.declared.op_kind.AggSpec.TheVariants as agg
 use Rattle.osh_table.specs.declared.option.Form.{Form}
 use Rattle.osh_table.specs.declared.option.Form.TheVariants as form
 use Rattle.osh_value.specs.declared.value.OptValue.TheVariants as value
-use Rattle.osh_value.specs.Values.{has_old, has_case, spanned, value_of}
-use Rattle.osh_print.specs.OptionText.{with_commas, pair_text, set_text, missing_word}
+use Rattle.op_row.specs.Expressed.{AreDistinct}
+use Rattle.osh_value.specs.Values.{spanned}
+use Rattle.osh_value.specs.ValueGrammar.{SpellsValue, missing_word, old_name}
+use Rattle.osh_print.specs.OptionText.{with_commas, pair_text, set_text}
 
 -- the bytes of a result, and its option
 abbrev pub agg_text : AggSpec → List ℕ
@@ -49,11 +51,6 @@ IsColumn name = IsWord name × IsName name
 abbrev pub IsPair : List ℕ × List ℕ → Type 0
 IsPair pair = IsFieldName pair.0 × IsColumn pair.1
 
--- no old name stands in a pair before
-abbrev pub OldDiffer : List (List ℕ × List ℕ) → List (List ℕ × List ℕ) → Type 0
-OldDiffer before [] = Unit {0}
-OldDiffer before (p ∷ ps) = (has_old before p.1 ≡ false) × OldDiffer (before ++ p ∷ []) ps
-
 abbrev pub IsResult : AggSpec → Type 0
 IsResult (agg.Count new) = IsFieldName new
 IsResult (agg.Sum new old) = IsPair (new, old)
@@ -69,7 +66,7 @@ pub record AreWidths (widths : List ℕ) : Type 0 where
 pub record ArePairs (pairs : List (List ℕ × List ℕ)) : Type 0 where
   pub some : 1 ≤ length pairs
   pub each : AllByRecursion IsPair pairs
-  pub differ : OldDiffer [] pairs
+  pub differ : NamesDiffer old_name pairs
 
 pub record AreColumns (names : List (List ℕ)) : Type 0 where
   pub some : 1 ≤ length names
@@ -92,28 +89,23 @@ pub record IsExpression (kept : List ℕ) : Type 0 where
 abbrev pub IsSet : SetSpec → Type 0
 IsSet s = IsField s.field × IsExpression s.expr
 
--- no case stands before
-abbrev pub CasesDiffer : List ℤ → List ℤ → Type 0
-CasesDiffer before [] = Unit {0}
-CasesDiffer before (z ∷ zs) = (has_case before z ≡ false) × CasesDiffer (before ++ z ∷ []) zs
-
 pub record AreCases (cases : List ℤ) : Type 0 where
   pub some : 1 ≤ length cases
   pub each : AllByRecursion (FitsSigned w64) cases
-  pub differ : CasesDiffer [] cases
+  pub differ : AreDistinct cases
 
--- what is printed of a value is read as the value
+-- what is printed of a value spells the value, and so is read as it
 pub record ValuesReadBack : Type 0 where
-  pub file : (name : List ℕ) → IsName name → value_of form.File name ≡ Some (value.Name name)
-  pub data_set : (name : List ℕ) → IsName name → length name ≤ 252 → value_of form.DataSet name ≡ Some (value.Name name)
-  pub schema : (fields : List Field) → IsSchema fields → value_of form.Schema (schema_text fields) ≡ Some (value.Schema fields)
-  pub delim : (b : ℕ) → ((b == 10) || (b == 13) || (b == 34)) ≡ false → value_of form.Delim (b ∷ []) ≡ Some (value.Delim b)
-  pub widths : (widths : List ℕ) → AreWidths widths → value_of form.Widths (with_commas decimal widths) ≡ Some (value.Widths widths)
-  pub columns : (names : List (List ℕ)) → AreColumns names → value_of form.Columns (names_text names) ≡ Some (value.Columns names)
-  pub keys : (keys : List (List ℕ × Bool)) → AreKeys keys → value_of form.Keys (keys_text keys) ≡ Some (value.Keys keys)
-  pub renames : (pairs : List (List ℕ × List ℕ)) → ArePairs pairs → value_of form.Renames (with_commas pair_text pairs) ≡ Some (value.Renames pairs)
-  pub results : (r : AggSpec) → IsResult r → value_of (agg_form r) (agg_text r) ≡ Some (value.Result r)
-  pub missing : (m : Missing) → value_of form.Missing (missing_word m) ≡ Some (value.Missing m)
-  pub expression : (kept : List ℕ) → IsExpression kept → value_of form.Expression kept ≡ Some (value.Expression kept)
-  pub set : (s : SetSpec) → IsSet s → value_of form.Setting (set_text s) ≡ Some (value.Set s)
-  pub cases : (cases : List ℤ) → AreCases cases → value_of form.Cases (with_commas signed_decimal cases) ≡ Some (value.Cases cases)
+  pub file : (name : List ℕ) → IsName name → SpellsValue form.File name (value.Name name)
+  pub data_set : (name : List ℕ) → IsName name → length name ≤ 252 → SpellsValue form.DataSet name (value.Name name)
+  pub schema : (fields : List Field) → IsSchema fields → SpellsValue form.Schema (schema_text fields) (value.Schema fields)
+  pub delim : (b : ℕ) → ((b == 10) || (b == 13) || (b == 34)) ≡ false → SpellsValue form.Delim (b ∷ []) (value.Delim b)
+  pub widths : (widths : List ℕ) → AreWidths widths → SpellsValue form.Widths (with_commas decimal widths) (value.Widths widths)
+  pub columns : (names : List (List ℕ)) → AreColumns names → SpellsValue form.Columns (names_text names) (value.Columns names)
+  pub keys : (keys : List (List ℕ × Bool)) → AreKeys keys → SpellsValue form.Keys (keys_text keys) (value.Keys keys)
+  pub renames : (pairs : List (List ℕ × List ℕ)) → ArePairs pairs → SpellsValue form.Renames (with_commas pair_text pairs) (value.Renames pairs)
+  pub results : (r : AggSpec) → IsResult r → SpellsValue (agg_form r) (agg_text r) (value.Result r)
+  pub missing : (m : Missing) → SpellsValue form.Missing (missing_word m) (value.Missing m)
+  pub expression : (kept : List ℕ) → IsExpression kept → SpellsValue form.Expression kept (value.Expression kept)
+  pub set : (s : SetSpec) → IsSet s → SpellsValue form.Setting (set_text s) (value.Set s)
+  pub cases : (cases : List ℤ) → AreCases cases → SpellsValue form.Cases (with_commas signed_decimal cases) (value.Cases cases)

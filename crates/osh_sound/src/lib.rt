@@ -28,7 +28,7 @@ pub fn flows_can_be_shaped()
     ensures forms { ReadKeepsForms }
 {}
 
-/// The printed value of an option is read as the value.
+/// The printed value of an option spells the value, and so is read as it.
 pub fn values_read_back()
     ensures { ValuesReadBack }
 {}

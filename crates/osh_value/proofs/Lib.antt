@@ -2,3 +2,10 @@ pub mod Commas
 pub mod Names
 pub mod Results
 pub mod Sets
+pub mod ListsSpelled
+pub mod TokensTaken
+pub mod WidthsSpelled
+pub mod CasesSpelled
+pub mod RenamesSpelled
+pub mod SetsSpelled
+pub mod ValuesSpelled

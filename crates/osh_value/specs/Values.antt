@@ -21,7 +21,7 @@ use Rattle.ds_schema.specs.declared.schema_text.fault.SchemaWhy.{SchemaWhy}
 use Rattle.ds_schema.specs.declared.schema_text.fault.SchemaWhy.TheVariants as schema_why
 use Rattle.ds_schema.specs.ColumnReading.{is_name, held, names_at, keys_at}
 use Rattle.ds_schema.specs.SchemaReading.{schema_of, is_field_name, is_size, field_at}
-use Rattle.expr_read.specs.Reading.{expr_of}
+use Rattle.expr_read.specs.Reading.{content, expr_of}
 use Rattle.flow_graph.specs.declared.op_kind.AggSpec.{AggSpec}
 use Rattle.flow_graph.specs.declared.op_kind.AggSpec.TheVariants as agg
 use Rattle.flow_graph.specs.declared.op_kind.SetSpec.{SetSpec}
@@ -30,12 +30,8 @@ use Rattle.osh_table.specs.declared.option.Form.TheVariants as form
 use Rattle.osh_value.specs.declared.value.OptValue.{OptValue}
 use Rattle.osh_value.specs.declared.value.OptValue.TheVariants as value
 
--- without the byte at each end
-abbrev pub unquoted : List ℕ → List ℕ
-unquoted bytes = drop 1 (take (length bytes - 1) bytes)
-
 abbrev pub content_by : Sort → List ℕ → List ℕ
-content_by sort.Quoted bytes = unquoted bytes
+content_by sort.Quoted bytes = content bytes
 content_by other bytes = bytes
 
 -- the bytes that a token stands for as a value: what stands between the quotes, or all

@@ -4,7 +4,9 @@ ghost use Rattle.std.specs.Prelude.{◌≡◌, ◌&&◌, ◌||◌, ◌==◌, nat
 ghost use Rattle.std.specs.Option.{option_map};
 ghost use Rattle.ds_lex.specs.Lexemes.{lexemes};
 ghost use Rattle.ds_lex.specs.Reading.{Moves, Gives};
+ghost use Rattle.ds_schema.specs.ColumnGrammar.{Found};
 ghost use Rattle.ds_schema.specs.SchemaReading.{schema_of};
+ghost use Rattle.osh_value.specs.ValueGrammar.{SpellsValue};
 ghost use Rattle.osh_value.specs.Values.{data_set_value, delim_value, file_value, inside, kept_expression, missing_named, result_of, said_at, schema_value, set_value, value_of, whole_at};
 ghost use Rattle.osh_value.specs.declared.value.OptValue.TheVariants as value;
 
@@ -180,9 +182,16 @@ fn inside(alloc: Global, form: Form, bytes: &[u8]) -> Result<Option<OptValue>, N
     }
 }
 
-/// What bytes of this form say; none where they aren't of the form.
-#[tactic(auto, unfolding(crate::specs::Values::value_of))]
+/// The value that bytes of this form spell; none where they spell none.
 pub fn value_of(alloc: Global, form: Form, bytes: &[u8]) -> Result<Option<OptValue>, NoMemory>
+    ensures spelled { IfOk result (λ v. Found (SpellsValue form bytes.now) v) }
+    ensures read { IfOk result (λ v. v ≡ value_of form bytes.now) }
+{
+    read(alloc, form, bytes)
+}
+
+#[tactic(auto, unfolding(crate::specs::Values::value_of))]
+fn read(alloc: Global, form: Form, bytes: &[u8]) -> Result<Option<OptValue>, NoMemory>
     ensures { IfOk result (λ v. v ≡ value_of form bytes.now) }
 {
     match form {
