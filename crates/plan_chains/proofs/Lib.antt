@@ -1,3 +1,4 @@
+pub mod Chaining
 pub mod Combining
 pub mod Mixing
 pub mod Parting

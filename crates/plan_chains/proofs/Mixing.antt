@@ -9,7 +9,7 @@ use Rattle.plan_chains.specs.Combined.{IsOneOutput}
 
 -- ---- outputs
 
-others-append : {X F : Type 0} (xs ys : List (Out X F)) → rows_out (others xs) ≡ [] → rows_out (others ys) ≡ [] → rows_out (others (xs ++ ys)) ≡ []
+pub others-append : {X F : Type 0} (xs ys : List (Out X F)) → rows_out (others xs) ≡ [] → rows_out (others ys) ≡ [] → rows_out (others (xs ++ ys)) ≡ []
 others-append [] ys h k = k
 others-append (fails fault ∷ xs) ys h k = others-append xs ys h k
 others-append (sends port x ∷ xs) ys h k = by (port == 0) h (λ e. others-append xs ys e k)
@@ -18,12 +18,22 @@ others-append (sends port x ∷ xs) ys h k = by (port == 0) h (λ e. others-appe
     by true e more = more e
     by false e more = absurd cc
 
-one_output : {X F : Type 0} (a : Stream X F) → IsOneOutput a → (done feeds : List (Feed X)) → rows_out (others (emits_after a done feeds)) ≡ []
+pub one_output : {X F : Type 0} (a : Stream X F) → IsOneOutput a → (done feeds : List (Feed X)) → rows_out (others (emits_after a done feeds)) ≡ []
 one_output a one done [] = refl
 one_output a one done (f ∷ feeds) = others-append (a.gives done f) (emits_after a (done ++ f ∷ []) feeds) (one done f) (one_output a one (done ++ f ∷ []) feeds)
 
 pub no_others : {X F : Type 0} (a : Stream X F) → IsOneOutput a → (lists : ℕ → List X) (outs : List (Out X F)) → Gives a lists outs → rows_out (others outs) ≡ []
 no_others a one lists outs g = ap (λ z. rows_out (others z)) (sym g.made) ∙ one_output a one [] g.feeds
+
+-- of what is emitted elsewhere, nothing more is left out
+pub no_more_others : {X F : Type 0} (outs : List (Out X F)) → others (others outs) ≡ others outs
+no_more_others [] = refl
+no_more_others (fails fault ∷ outs) = ap (λ z. fails fault ∷ z) (no_more_others outs)
+no_more_others (sends port x ∷ outs) = by (port == 0) refl (no_more_others outs)
+  where
+    by : (t : Bool) → (port == 0) ≡ t → others (others outs) ≡ others outs → others (cond t (others outs) (sends port x ∷ others outs)) ≡ cond t (others outs) (sends port x ∷ others outs)
+    by true e more = more
+    by false e more = ap (λ t. cond t (others (others outs)) (sends port x ∷ others (others outs))) e ∙ ap (λ z. sends port x ∷ z) more
 
 other_faults : {X F : Type 0} (outs : List (Out X F)) → faults_out (others outs) ≡ faults_out outs
 other_faults [] = refl
