@@ -41,7 +41,7 @@ use Rattle.osh_back.specs.Spelled.{MethodFits, KindFits, OpFits}
 use Rattle.osh_back.proofs.PrintedWords.{prints_as, prints_where, either_left, either_right, opens, closes, semicolon, NoWordByte}
 use Rattle.osh_back.proofs.MethodsPrinted.{unplaced, Somewhere, somewhere_then, nowhere, in_prints, out_prints}
 use Rattle.osh_back.proofs.OptionsFit.{options_fit}
-use Rattle.osh_back.proofs.OptionsStand.{none_lacks}
+use Rattle.osh_back.proofs.OptionsStand.{all_complete}
 
 -- ---- texts that begin with a blank
 
@@ -267,7 +267,7 @@ line_prints links number o n h f =
     subst (λ (t : List ℕ). Prints Osh (OneLine links number o) (operator_word name ++ (t ++ (y ++ z))) NoWordByte) (sym (written_printed o.kind (can_be_said o.kind f.0)))
     (prints_as (token sort.Word (Named name) ~ options_phrase name (written o.kind) ~ mark_phrase name o.mark ~ Somewhere (shapes links number)) (OneLine links number o) (operator_word name ++ (x ++ (y ++ z))) NoWordByte
     (λ ts rest p. (let q = p.2 in let r = q.2 in let s = r.2 in
-    (stage_with o s.0, record { op = refl; options = refl; kind = refl; mark = refl; joined = refl; redirects = s.1 }, (p.0, p.1, (p.0, (none_lacks o.kind p.0 q.0 f.0 q.1, refl), (q.0, q.1, (r.0, r.1, s.2)))))))
+    (stage_with o s.0, record { op = refl; options = refl; kind = refl; mark = refl; joined = refl; redirects = s.1 }, (p.0, p.1, (p.0, (all_complete o.kind f.0, refl), (q.0, q.1, (r.0, r.1, s.2)))))))
     (prints_then Osh (token sort.Word (Named name)) (options_phrase name (written o.kind) ~ mark_phrase name o.mark ~ Somewhere (shapes links number)) (operator_word name) (x ++ (y ++ z)) NoWordByte NoWordByte (operator_prints o.kind f.0)
     (prints_then Osh (options_phrase name (written o.kind)) (mark_phrase name o.mark ~ Somewhere (shapes links number)) x (y ++ z) (Fails is_opt_byte) NoWordByte (options_print name (written o.kind) (options_fit o.kind f.0))
     (prints_then Osh (mark_phrase name o.mark) (Somewhere (shapes links number)) y z anything NoWordByte (mark_prints name (plain_mark name) o.mark refl (can_run o.kind o.mark f.0 f.1)) (shapes_print links number n h) (λ after g. tt))

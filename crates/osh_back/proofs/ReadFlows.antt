@@ -26,6 +26,7 @@ use Rattle.osh_read.specs.declared.stage.Stage.{Stage}
 use Rattle.osh_read.specs.declared.stage.Directive.{Directive}
 use Rattle.osh_read.specs.declared.links.Output.{Output}
 use Rattle.osh_read.specs.Joining.{name_of, pipe_ports, source, link_from, link_of, next_input, links_of, pipe_link, links_from, ops, links, outputs, unjoined}
+use Rattle.osh_sound.proofs.OptionsComplete.{none_lacks}
 use Rattle.osh_sound.specs.Grammar.{mark_phrase, redirect_phrase, redirects_phrase, joint_phrase, WrittenStage, stage_phrase, IsStage, AreStages, stages_of, further_phrase, stages_phrase, directives_phrase, SpellsFlow}
 use Rattle.osh_sound.specs.Sound.{MarkFits}
 use Rattle.osh_sound.proofs.TokensSound.{AllSound, limited_sound, sign_plain}
@@ -34,7 +35,6 @@ use Rattle.osh_sound.proofs.OptionsRead.{PlainFront}
 use Rattle.osh_sound.proofs.StagesRead.{Front, Closes, further_front}
 use Rattle.osh_sound.proofs.FlowsHold.{text_holds}
 use Rattle.osh_sound.proofs.FlowsKeep.{spelled_joined, spelled_keeps}
-use Rattle.osh_read.specs.Options.{lacks_option}
 use Rattle.osh_back.specs.Spelled.{MethodFits, KindFits, ByConsumer, InPorts, HasOutputs, CanBeSpelled}
 use Rattle.osh_back.specs.BackLaws.{ReadCanBeSpelled}
 use Rattle.osh_back.proofs.ReadLists.{read_method}
@@ -102,7 +102,7 @@ stage_good w ts rest s h f i j =
     let at_redirects = (mark_pass w.op w.stage.mark behind.0 behind.2.0 behind.2.1).sound options.1 in
     let at_end = (redirects_pass w.stage.redirects behind.2.0 rest behind.2.2).sound at_redirects in
     let plain = mark_plain w.op w.stage.mark behind.0 behind.2.0 behind.2.1 options.1 (redirects_plain w.stage.redirects behind.2.0 rest behind.2.2 at_redirects (closes_plain rest at_end f)) in
-    let whole : Whole w.op w.options = record { good = options.0; together = i.together; ts = h.2.0; rest = behind.0; phrase = behind.1; plain = plain; full = subst (λ (us : List Lexeme). lacks_option w.op us ≡ false) h.2.1.1 h.2.1.0 } in
+    let whole : Whole w.op w.options = record { good = options.0; together = i.together; ts = h.2.0; rest = behind.0; phrase = behind.1; plain = plain; full = none_lacks w.op w.options h.2.0 behind.0 h.2.1.0 behind.1 } in
     ((kind_fits w.op w.options w.stage.kind whole i.says, (j, redirects_good w.stage.redirects behind.2.0 rest at_redirects behind.2.2)), at_end)
 
 further_good : (ws : List WrittenStage) (ts : List Lexeme) → AllSound ts → further_phrase ws ts [] → AreStages ws → AllByRecursion Good (stages_of ws)

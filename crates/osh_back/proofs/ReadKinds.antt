@@ -31,12 +31,12 @@ use Rattle.osh_value.specs.declared.value.OptValue.TheVariants as value
 use Rattle.osh_value.specs.declared.setting.Setting.{Setting}
 use Rattle.osh_value.specs.Kinds.{number_of, found_value, stands, name_in, schema_in, delim_in, widths_in, keys_in, columns_in, renames_in, expression_in, cases_in, sets_of, results_of, with_value, transform_by, kind_of}
 use Rattle.osh_read.specs.Options.{is_opt, is_value, has_group, clashes, stands_ahead, is_lacking, lacks_option}
-use Rattle.osh_sound.specs.Grammar.{WrittenOption, setting_of, value_phrase, options_phrase, StandTogether}
+use Rattle.osh_sound.specs.Grammar.{WrittenOption, setting_of, value_phrase, options_phrase, StandTogether, Among}
 use Rattle.osh_sound.specs.ValueLaws.{IsResult, ArePairs, AreCases, AreColumns, AreKeys}
 use Rattle.osh_sound.proofs.OptionsRead.{PlainFront}
 use Rattle.osh_back.specs.Spelled.{Maybe, FormFits, IsDataSet, KeepsOrDrops, ExpressionFits, SetFits, KindFits}
 use Rattle.osh_back.proofs.OptionsFit.{perhaps}
-use Rattle.osh_back.proofs.OptionsStand.{Among, row_word}
+use Rattle.osh_sound.proofs.OptionsComplete.{row_word}
 use Rattle.osh_back.proofs.ReadLists.{SoundIn}
 use Rattle.osh_back.proofs.ReadValues.{GoodValue, token_good}
 

@@ -31,13 +31,10 @@ use Rattle.osh_sound.proofs.StagesRead.{stage_reads, further_front, name_front, 
 
 -- ---- stages
 
-full_left : (o : OpName) (ts rest : List Lexeme) → ts ≡ rest → Left ts rest
-full_left o ts rest e = same_left ts rest e
-
 stage_left : (w : WrittenStage) (ts rest : List Lexeme) → stage_phrase w ts rest → Left ts rest
 stage_left w ts rest h =
     then_left ts h.0 rest (token_pass sort.Word (λ bytes. operator_named bytes ≡ Some w.op) ts h.0 h.1)
-    (then_left h.0 h.2.0 rest (full_left w.op h.0 h.2.0 h.2.1.1)
+    (then_left h.0 h.2.0 rest (same_left h.0 h.2.0 h.2.1.1)
     (then_left h.2.0 h.2.2.0 rest (options_pass w.op w.options h.2.0 h.2.2.0 h.2.2.1)
     (then_left h.2.2.0 h.2.2.2.0 rest (mark_pass w.op w.stage.mark h.2.2.0 h.2.2.2.0 h.2.2.2.1) (redirects_pass w.stage.redirects h.2.2.2.0 rest h.2.2.2.2))))
 

@@ -1,5 +1,6 @@
 pub mod Fronts
 pub mod MethodsHold
+pub mod OptionsComplete
 pub mod OptionsHold
 pub mod StagesHold
 pub mod FlowsHold

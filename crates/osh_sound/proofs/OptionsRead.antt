@@ -6,7 +6,7 @@ use Rattle.std.proofs.lemmas.List.{append-nil}
 use Rattle.ds_lex.specs.declared.token.Sort.TheVariants as sort
 use Rattle.ds_lex.specs.Lexemes.{Lexeme}
 use Rattle.ds_lex.specs.Reading.{first_of}
-use Rattle.ds_lex.specs.Phrases.{token, ◌~◌}
+use Rattle.ds_lex.specs.Phrases.{token, nothing_where, ◌~◌}
 use Rattle.flow_graph.specs.declared.op_kind.OpKind.{OpKind}
 use Rattle.osh_table.specs.declared.operator.OpName.{OpName}
 use Rattle.osh_table.specs.declared.option.Form.{Form}
@@ -21,16 +21,13 @@ use Rattle.osh_value.proofs.ValuesSpelled.{spelled_value}
 use Rattle.osh_read.specs.declared.fault.OshWhy.TheVariants as why
 use Rattle.osh_read.specs.Reading.{repeated, append}
 use Rattle.osh_read.specs.Options.{is_value, is_opt, is_flag, value_comes, lacks_value, clashes, taken_at, setting_at, opt_at, next_setting_at, is_missing, lacks_option, head_at}
-use Rattle.osh_sound.specs.Grammar.{WrittenOption, setting_of, value_phrase, options_phrase, StandTogether, full}
+use Rattle.osh_sound.specs.Grammar.{WrittenOption, setting_of, value_phrase, options_phrase, StandTogether, AreComplete}
+use Rattle.osh_sound.proofs.OptionsComplete.{NoValue, none_lacks}
 use Rattle.osh_sound.proofs.TokensSound.{Plain}
 use Rattle.osh_sound.proofs.PhrasesPass.{value_pass}
 use Rattle.osh_sound.proofs.MethodsRead.{sort_reads}
 
--- no value stands in front, or neither an option nor a value
-abbrev NoValue : List Lexeme → Type 0
-NoValue [] = Unit {0}
-NoValue (t ∷ ts) = is_value t.sort ≡ false
-
+-- neither an option nor a value stands in front
 abbrev pub PlainFront : List Lexeme → Type 0
 PlainFront [] = Unit {0}
 PlainFront (t ∷ ts) = Plain t.sort
@@ -86,15 +83,15 @@ options_read (suc n) op cut found (w ∷ ws) (t ∷ ts) rest l h s p =
     let few = (value_pass w.row.form w.value ts h.0 value).fewer in
     rw one (options_read n op cut (found ++ setting_of w ∷ []) ws h.0 rest (omega arith) h.2 s.1 p ∙ ap (λ (xs : List Setting). Ok (xs, rest)) (append_assoc found (setting_of w ∷ []) (map setting_of ws)))
 
-pub head_reads : (before : ℕ) (op : OpName) (ws : List WrittenOption) (kind : OpKind) (ts rest : List Lexeme) → (token sort.Word (λ bytes. operator_named bytes ≡ Some op) ~ full op ~ options_phrase op ws) ts rest → StandTogether [] ws → kind_of op (map setting_of ws) ≡ Some kind → nat_le 200 before ≡ false → PlainFront rest
+pub head_reads : (before : ℕ) (op : OpName) (ws : List WrittenOption) (kind : OpKind) (ts rest : List Lexeme) → (token sort.Word (λ bytes. operator_named bytes ≡ Some op) ~ nothing_where (AreComplete op ws) ~ options_phrase op ws) ts rest → StandTogether [] ws → kind_of op (map setting_of ws) ≡ Some kind → nat_le 200 before ≡ false → PlainFront rest
     → head_at before false ts ≡ Ok ((op, kind), rest)
 unfolding head_at
 head_reads before op ws kind [] rest h s k r p = absurd h.1
 head_reads before op ws kind (t ∷ ts) rest h s k r p =
     let word = h.1 in
-    let lacks : lacks_option op ts ≡ false = ap (lacks_option op) word.2 ∙ h.2.1.0 in
-    let missing : is_missing op false ts ≡ false = rw lacks refl in
     let same : ts ≡ h.2.0 = word.2 ∙ h.2.1.1 in
     let options : options_phrase op ws ts rest = subst (λ (xs : List Lexeme). options_phrase op ws xs rest) (sym same) h.2.2 in
+    let lacks : lacks_option op ts ≡ false = none_lacks op ws ts rest h.2.1.0 options in
+    let missing : is_missing op false ts ≡ false = rw lacks refl in
     let read = options_read (length ts) op false [] ws ts rest (omega arith) options s p in
     rw (sort_reads sort.Word why.Syntax t ts word.0, word.1, missing, r, read, k) refl

@@ -6,7 +6,8 @@
 --   redirect  = "<" [ method ] WORD | ">" WORD
 --   method    = "[" kind [ keys ] [ flag ] "]" | "[" flag "]"
 --   flag      = "set" | "clear" | "prop"
-use Rattle.std.specs.Prelude.{◌≡◌, ◌≤◌, ℕ, List, [], ◌∷◌, ◌++◌, length, map, Some, None, true, false, codes}
+use Rattle.std.specs.Prelude.{◌≡◌, ◌≤◌, ◌⊎◌, ℕ, List, [], ◌∷◌, ◌++◌, length, map, Some, None, true, false, codes}
+use Rattle.std.specs.List.{AllByRecursion}
 use Rattle.ds_value.specs.Names.{IsName}
 use Rattle.ds_lex.specs.declared.token.Mode.TheVariants.{Osh}
 use Rattle.ds_lex.specs.declared.token.Sort.TheVariants as sort
@@ -22,11 +23,12 @@ use Rattle.flow_graph.specs.declared.flow.Flag.{Flag}
 use Rattle.flow_graph.specs.declared.flow.Flag.TheVariants as flag
 use Rattle.flow_graph.specs.declared.flow.Flow.{Flow}
 use Rattle.osh_table.specs.declared.operator.OpName.{OpName}
+use Rattle.osh_table.specs.declared.option.OptName.{OptName}
 use Rattle.osh_table.specs.declared.option.Form.{Form}
 use Rattle.osh_table.specs.declared.option.Form.TheVariants as form
 use Rattle.osh_table.specs.declared.option.OptRow.{OptRow}
 use Rattle.osh_table.specs.Words.{operator_named}
-use Rattle.osh_table.specs.Options.{row_named}
+use Rattle.osh_table.specs.Options.{options_of, row_named}
 use Rattle.osh_value.specs.declared.value.OptValue.{OptValue}
 use Rattle.osh_value.specs.declared.value.OptValue.TheVariants as value
 use Rattle.osh_value.specs.declared.setting.Setting.{Setting}
@@ -41,7 +43,7 @@ use Rattle.osh_read.specs.declared.stage.Stage.{Stage}
 use Rattle.osh_read.specs.declared.stage.Directive.{Directive}
 use Rattle.osh_read.specs.declared.stage.Directive.TheVariants as directive
 use Rattle.osh_read.specs.declared.stage.Directives.{Directives}
-use Rattle.osh_read.specs.Options.{is_value, clashes, lacks_option}
+use Rattle.osh_read.specs.Options.{is_value, clashes, needs_any}
 use Rattle.osh_read.specs.Stages.{plain_mark, bears, directed, no_directives}
 use Rattle.osh_read.specs.Joining.{unjoined}
 use Rattle.osh_read.specs.Flows.{made}
@@ -128,9 +130,15 @@ abbrev pub redirects_phrase : List Redirect → Phrase
 redirects_phrase [] = nothing
 redirects_phrase (r ∷ rs) = redirect_phrase r ~ redirects_phrase rs
 
--- the options that the operator must have stand among those at the front
-abbrev pub full : OpName → Phrase
-full op ts rest = (lacks_option op ts ≡ false) × (ts ≡ rest)
+-- an option of this name is among them
+abbrev pub Among : OptName → List WrittenOption → Type 0
+Among o [] = ⊥
+Among o (w ∷ ws) = (w.row.opt ≡ o) ⊎ Among o ws
+
+-- each option that the operator must have is among them, and one at least where it must have any
+pub record AreComplete (op : OpName) (ws : List WrittenOption) : Type 0 where
+  pub required : AllByRecursion (λ (r : OptRow). r.required ≡ true → Among r.opt ws) (options_of op)
+  pub some : needs_any op ≡ true → 1 ≤ length ws
 
 -- a stage as it is written
 pub record WrittenStage : Type 0 where
@@ -139,7 +147,7 @@ pub record WrittenStage : Type 0 where
   pub stage : Stage
 
 abbrev pub stage_phrase : WrittenStage → Phrase
-stage_phrase w = token sort.Word (λ bytes. operator_named bytes ≡ Some w.op) ~ full w.op ~ options_phrase w.op w.options ~ mark_phrase w.op w.stage.mark ~ redirects_phrase w.stage.redirects
+stage_phrase w = token sort.Word (λ bytes. operator_named bytes ≡ Some w.op) ~ nothing_where (AreComplete w.op w.options) ~ options_phrase w.op w.options ~ mark_phrase w.op w.stage.mark ~ redirects_phrase w.stage.redirects
 
 -- the options exclude none of each other, and say the operator
 pub record IsStage (w : WrittenStage) : Type 0 where
