@@ -1,0 +1,71 @@
+-- The streams of the operators that are built, by their kinds.
+use Rattle.std.specs.Prelude.{◌≡◌, ℕ, ◌<◌, Bool, List, length, map, get_or}
+use Rattle.streams.specs.Streams.{Stream}
+use Rattle.ds_schema.specs.Rows.{cols}
+use Rattle.ds_schema.specs.Schemas.{row_fits}
+use Rattle.op_base.specs.declared.fault.Fault.{Fault}
+use Rattle.op_base.specs.Columns.{Row}
+use Rattle.op_base.specs.Keyed.{get_keys}
+use Rattle.op_base.specs.RowOperators.{sink_rule}
+use Rattle.op_row.specs.ByRow.{by_row as by_row_stream, copier_stream, modify_stream}
+use Rattle.op_row.specs.Expressed.{filter_stream, switch_stream, transform_stream}
+use Rattle.op_order.specs.Ordered.{tsort_stream, remdup_stream}
+use Rattle.op_join.specs.declared.kind.JoinKind.TheVariants.{Inner, Left, Right, Full}
+use Rattle.op_join.specs.Joining.{join_stream}
+use Rattle.op_lookup.specs.Looked.{looked_stream}
+use Rattle.op_base.specs.Standing.{RowStream}
+use Rattle.flow_graph.specs.declared.flow.Flow.{Flow}
+use Rattle.flow_graph.specs.declared.op_kind.OpKind.{OpKind}
+use Rattle.flow_graph.specs.declared.op_kind.OpKind.TheVariants as kind
+use Rattle.flow_graph.specs.declared.parts.OpParts.{OpParts}
+use Rattle.flow_graph.specs.declared.parts.Stored.{Stored}
+use Rattle.flow_graph.specs.Charts.{Chart, links_from, op_at, parts_of}
+use Rattle.flow_graph.specs.Operators.{Op, by_row}
+use Rattle.flow_graph.specs.RowRules.{at_op, first_expr, sets_of}
+use Rattle.flow_ops.specs.Keyed.{aggs_of, join_of}
+use Rattle.flow_ops.specs.Kinds.{widths_into}
+use Rattle.flow_rules.specs.Exports.{IsExport}
+use Rattle.flow_shape.specs.Refusals.{fields_at}
+use Rattle.flow_links.specs.Outputs.{LinksOutputs}
+use Rattle.flow_sound.specs.Promise.{ShapedFlow}
+use Rattle.flow_plan.specs.Data.{Datum, numbered_at, import_stream}
+use Rattle.flow_plan.specs.Planned.{op_count}
+use Rattle.plan_sound.specs.OperatorStreams.{group_stream}
+use Rattle.plan_sound.specs.Working.{Works}
+
+-- The rows of an operator between imports and exports, by its kind, what its names stand for, the widths of its inputs and the number of links that leave it; a copy for kinds that aren't built yet.
+abbrev pub row_stream : OpKind → OpParts → List ℕ → ℕ → RowStream
+row_stream (kind.Filter test reject) parts widths outs = filter_stream (first_expr parts) reject
+row_stream (kind.Transform set reject) parts widths outs = transform_stream (sets_of set parts.cols parts.exprs) reject
+row_stream (kind.Modify keep drop rename) parts widths outs = modify_stream parts.cols
+row_stream (kind.Switch on cases reject) parts widths outs = switch_stream (first_expr parts) cases reject
+row_stream (kind.Tsort key) parts widths outs = tsort_stream (get_keys parts.keys 0)
+row_stream (kind.Remdup key last) parts widths outs = remdup_stream (get_keys parts.keys 0) last
+row_stream (kind.Group key hash results) parts widths outs = group_stream (get_keys parts.keys 0) hash (aggs_of results parts.cols)
+row_stream (kind.InnerJoin key) parts widths outs = join_stream (join_of Inner parts (get_or widths 0 0) (get_or widths 1 0))
+row_stream (kind.LeftOuterJoin key) parts widths outs = join_stream (join_of Left parts (get_or widths 0 0) (get_or widths 1 0))
+row_stream (kind.RightOuterJoin key) parts widths outs = join_stream (join_of Right parts (get_or widths 0 0) (get_or widths 1 0))
+row_stream (kind.FullOuterJoin key) parts widths outs = join_stream (join_of Full parts (get_or widths 0 0) (get_or widths 1 0))
+row_stream (kind.Lookup key missing) parts widths outs = looked_stream (cols (get_keys parts.keys 0)) (cols (get_keys parts.keys 1)) (get_or widths 1 0) missing
+row_stream k parts widths outs = copier_stream outs
+
+-- The stream of the operator with the number o: an export has faults for rows that it can't write.
+abbrev pub stream_by : ℕ → OpKind → OpParts → List ℕ → ℕ → (Row → List Fault) → Stream Datum Fault
+stream_by o (kind.Import file schema delim fixed reject) parts widths outs unwritable = import_stream reject
+stream_by o (kind.Export file delim fixed) parts widths outs unwritable = numbered_at o (by_row_stream (sink_rule unwritable) 0)
+stream_by o k parts widths outs unwritable = numbered_at o (row_stream k parts widths outs)
+
+abbrev pub stream_at : Chart → (ℕ → Row → List Fault) → ℕ → Stream Datum Fault
+stream_at c unwritable o = stream_by o (op_at c o).kind (parts_of c o) (widths_into c o) (length (links_from c o)) (unwritable o)
+
+-- a row fits the fields of a link
+abbrev pub fits_at : Chart → ℕ → Row → Bool
+fits_at c l r = row_fits (fields_at c l) r
+
+-- what exports can't write are the faults of their streams
+abbrev pub SinksAre : Chart → (ℕ → Op) → (ℕ → Row → List Fault) → Type 0
+SinksAre c ops unwritable = (o : ℕ) → o < op_count c → IsExport (op_at c o).kind → ops o ≡ by_row (sink_rule (λ r. map (at_op o) (unwritable o r)))
+
+-- Each operator of a shaped flow, as the stream of its code, works.
+abbrev pub KindsWork : Type 0
+KindsWork = (flow : Flow) (dict : List Stored) (c : Chart) (ops : ℕ → Op) (unwritable : ℕ → Row → List Fault) → ShapedFlow flow dict c ops → LinksOutputs c → SinksAre c ops unwritable → (o : ℕ) → o < op_count c → Works c (fits_at c) o (ops o) (stream_at c unwritable o)

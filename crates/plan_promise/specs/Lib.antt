@@ -1,0 +1,2 @@
+pub mod KindStreams
+pub mod Promised

@@ -1,0 +1,27 @@
+ghost use Rattle.plan_promise.specs.KindStreams.{KindsWork};
+ghost use Rattle.plan_promise.specs.Promised.{WrittenStands, ExecutionsKeep, FinishedKeeps, UntoldKeeps, RunsKeep, BatchesKeep, NodesFit};
+
+/// The operators that are built, as the streams of their code, work in a shaped flow.
+///
+/// Each output is to be on a link (`LinksOutputs`, as in each flow that is read), and what an
+/// export's stream finds are to be its faults (`SinksAre`).
+pub fn kinds_work()
+    ensures { KindsWork }
+{}
+
+/// A legal execution of an accepted flow's plan keeps what the flow means. So does each finished
+/// state of the step core, with batches too, and where files tell nothing of what they still have;
+/// and so does a run that is over, by whatever it was run.
+///
+/// What is asked besides shape and verdict has a name in `Played`: as in `kinds_work`, and that
+/// degrees are such as operators and routes ask, and that each source has its file. `stand` and
+/// `nodes` are for those who show that degrees and routes are so.
+pub fn executions_keep()
+    ensures stand { WrittenStands }
+    ensures nodes { NodesFit }
+    ensures keep { ExecutionsKeep }
+    ensures finished { FinishedKeeps }
+    ensures untold { UntoldKeeps }
+    ensures runs { RunsKeep }
+    ensures batches { BatchesKeep }
+{}

@@ -1,0 +1,8 @@
+pub mod Arriving
+pub mod Collecting
+pub mod Bringing
+pub mod Giving
+pub mod Tying
+pub mod Runs
+pub mod Meaning
+pub mod Working

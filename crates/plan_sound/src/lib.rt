@@ -1,0 +1,4 @@
+//! Why each legal execution of a flow's plan is a legal run of the flow.
+#![tactic(auto)]
+
+pub mod laws;
