@@ -1,6 +1,7 @@
 -- A plan with chains, link by link.
 use Rattle.std.proofs.Common.{◌≡◌, ℕ, ◌<◌, ◌==◌, Bool, true, false, cond, ◌⊎◌, inl, inr, refl, sym, ap, ◌∙◌, subst, List, [], ◌∷◌}
 use Rattle.std.proofs.lemmas.Bool.{eqb-true}
+use Rattle.std.proofs.lemmas.List.Sorted.{IsPermutation-refl, IsPermutation-trans}
 use Rattle.streams.specs.Lists.{IsIn}
 use Rattle.streams.specs.Streams.{Out, Stream, emits_after, on, rows_out}
 use Rattle.streams.specs.Core.{Player}
@@ -8,8 +9,9 @@ use Rattle.streams.specs.Wiring.{Plan, IsWired}
 use Rattle.streams.specs.Chains.{others, passed_on, hand_on, then_stream, IsOnePort}
 use Rattle.streams.proofs.StreamLaws.{eq_true, true_false}
 use Rattle.plan_chains.specs.Combined.{CanCombine, combined, IsOneOutput, part}
-use Rattle.plan_chains.specs.Chains.{combined_at, chained, CanChain, ChainedIsLegal, ChainedIsWired}
+use Rattle.plan_chains.specs.Chains.{all_faults, combined_at, chained, CanChain, ChainedIsLegal, ChainedIsWired}
 use Rattle.plan_chains.proofs.Combining.{stays, differ, degrees_same, stream_a, stream_other, outs_a, outs_other, is_a, is_b, wired_both}
+use Rattle.plan_chains.proofs.Faulting.{faults_kept}
 use Rattle.plan_chains.proofs.Mixing.{others-append, no_more_others, one_output}
 use Rattle.plan_chains.proofs.Parting.{combined_is_legal}
 
@@ -96,6 +98,7 @@ chained_is_legal plan [] wired can file lane taken made legal = record {
   other_lanes = λ k n. refl;
   other_takes = λ p i n. refl;
   sends = λ o l i there out n lt q. ap (λ z. on q (made (part z i))) (wired.outputs o l there out).from;
+  faults = IsPermutation-refl (all_faults plan made);
 }
 chained_is_legal plan (l ∷ ls) wired can file lane taken made legal =
     let a : ℕ = (plan.wire l).from in
@@ -112,4 +115,5 @@ chained_is_legal plan (l ∷ ls) wired can file lane taken made legal =
       other_lanes = λ k n. s.other_lanes k (λ e. n (inl e)) ∙ r.other_lanes k (λ i. n (inr i));
       other_takes = λ p i n. s.other_takes p i n.0 ∙ r.other_takes p i n.1;
       sends = λ o m i there out n lt q. sends_on plan a b l wired can.0 ls made r.makes s.makes r.sends s.sends s.other_makes o m i there out (λ e. n (inl e)) (λ h. n (inr h)) lt q;
+      faults = IsPermutation-trans (all_faults (chained both ls) made) (all_faults both r.makes) (all_faults plan s.makes) r.faults (faults_kept plan a b l wired can.0 r.makes s.makes s.other_makes s.faults);
     }

@@ -145,23 +145,23 @@ module _ {X F : Type 0} (plan : Plan X F) (a b link : ℕ) (wired : IsWired plan
               sole (inl s) = s
               sole (inr i) = absurd i
 
+  -- what feeds b was seen before it
+  pub fed_before : (seen order : List ℕ) (o : ℕ) → GoesForward plan seen (o ∷ order) → o ≡ b → IsIn a seen
+  fed_before seen order o f e =
+      let ports : (plan.stream b).ports ≡ 1 = can.one_port.one in
+      let lt : 0 < (plan.stream o).ports = subst (λ z. 0 < (plan.stream z).ports) (sym e) (omega arith) in
+      let input : plan.input o 0 ≡ link = ap (λ z. plan.input z 0) e ∙ input_is in
+      elim (f.0 0 lt) [
+        | inl file ↦ absurd (true_false (ap (λ z. (plan.wire z).file) (sym input) ∙ file) leaves.no_file)
+        | inr n ↦ subst (λ z. IsIn z seen) (ap (λ z. (plan.wire z).from) input ∙ leaves.from) n.0
+      ]
+
   forward : (seen more order : List ℕ) → ((x : ℕ) → IsIn x order → IsIn x plan.order) → ((x : ℕ) → IsIn x seen → (x ≡ b → ⊥) → IsIn x more) → ((x : ℕ) → IsIn x more → IsIn x seen) → (IsIn b seen → IsIn a more) → GoesForward plan seen order → GoesForward both more (without b order)
   forward seen more [] within keep back head f = tt
   forward seen more (o ∷ order) within keep back head f = by (o == b) refl
-      (λ e. forward (o ∷ seen) more order (λ x i. within x (inr i)) (λ x i n. elim i [ inl s ↦ absurd (n (s ∙ e)) | inr j ↦ keep x j n ]) (λ x i. inr (back x i)) (λ i. elim i [ inl s ↦ keep a (fed e) differ | inr j ↦ head j ]) f.2)
+      (λ e. forward (o ∷ seen) more order (λ x i. within x (inr i)) (λ x i n. elim i [ inl s ↦ absurd (n (s ∙ e)) | inr j ↦ keep x j n ]) (λ x i. inr (back x i)) (λ i. elim i [ inl s ↦ keep a (fed_before seen order o f e) differ | inr j ↦ head j ]) f.2)
       (forward (o ∷ seen) (o ∷ more) order (λ x i. within x (inr i)) (λ x i n. elim i [ inl s ↦ inl s | inr j ↦ inr (keep x j n) ]) (λ x i. elim i [ inl s ↦ inl s | inr j ↦ inr (back x j) ]))
     where
-      -- what feeds b was seen
-      fed : o ≡ b → IsIn a seen
-      fed e =
-          let ports : (plan.stream b).ports ≡ 1 = can.one_port.one in
-          let lt : 0 < (plan.stream o).ports = subst (λ z. 0 < (plan.stream z).ports) (sym e) (omega arith) in
-          let input : plan.input o 0 ≡ link = ap (λ z. plan.input z 0) e ∙ input_is in
-          elim (f.0 0 lt) [
-            | inl file ↦ absurd (true_false (ap (λ z. (plan.wire z).file) (sym input) ∙ file) leaves.no_file)
-            | inr n ↦ subst (λ z. IsIn z seen) (ap (λ z. (plan.wire z).from) input ∙ leaves.from) n.0
-          ]
-
       by : (t : Bool) → (o == b) ≡ t → (o ≡ b → GoesForward both more (without b order)) → ((IsIn b (o ∷ seen) → IsIn a (o ∷ more)) → GoesForward plan (o ∷ seen) order → GoesForward both (o ∷ more) (without b order)) → GoesForward both more (cond (not t) (o ∷ without b order) (without b order))
       by true e drop keeps = drop (eqb-true o b e)
       by false e drop keeps = (

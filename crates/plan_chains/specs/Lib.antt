@@ -1,2 +1,4 @@
 pub mod Chains
 pub mod Combined
+pub mod Finished
+pub mod Worked

@@ -1,4 +1,7 @@
-//! Operators of a plan in turn as one: what a plan with a combined link does, the plan does too.
+//! Operators of a plan in turn as one: what a plan with combined links does, the plan does too.
 #![tactic(auto)]
 
 pub mod laws;
+mod worked;
+
+pub use worked::three_in_turn;
