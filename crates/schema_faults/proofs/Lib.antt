@@ -1,0 +1,10 @@
+pub mod Halting
+pub mod Names
+pub mod TypeReasons
+pub mod FieldReasons
+pub mod Extending
+pub mod Reached
+pub mod SizeAnswers
+pub mod CauseAnswers
+pub mod Refusals
+pub mod FirstFaults
