@@ -1,4 +1,5 @@
-ghost use Rattle.std.specs.Prelude.{◌≡◌, ◌<◌, false, [], Some};
+ghost use Rattle.std.specs.Prelude.{◌≡◌, ◌<◌, ◌-◌, ◌^◌, min, false, [], Some};
+ghost use Rattle.std.proofs.Math.Nat.{min-le_right};
 ghost use Rattle.ds_port.specs.Causes.{HasCause};
 ghost use Rattle.ds_port.specs.FileMap.{no_files};
 
@@ -42,7 +43,9 @@ impl Source for DiskInput {
 
     ghost rest = { λ _. [] };
 
-    ghost faults = { λ s. s.faults };
+    ghost faults = { λ s. min s.faults (2 ^ 64 - 1) };
+
+    ghost bounded = { λ s. min-le_right s.faults (2 ^ 64 - 1) };
 
     fn read(&mut self, buf: &mut [u8]) -> Result<usize, DeviceFault> {
         match self.file.read(buf) {
@@ -62,7 +65,9 @@ impl Sink for DiskOutput {
 
     ghost name = { λ s. Some s.name };
 
-    ghost faults = { λ s. s.faults };
+    ghost faults = { λ s. min s.faults (2 ^ 64 - 1) };
+
+    ghost bounded = { λ s. min-le_right s.faults (2 ^ 64 - 1) };
 
     fn write(&mut self, bytes: &[u8]) -> Result<usize, DeviceFault> {
         write_once(&mut self.file, &mut self.faults, bytes)
@@ -90,7 +95,10 @@ fn path_of(alloc: Global, name: &Name, ending: &str) -> Result<String, AllocErro
 }
 
 impl<R: System<File = File>> DiskFiles<R> {
-    pub fn new(system: R) -> DiskFiles<R> {
+    pub fn new(system: R) -> DiskFiles<R>
+        ensures faults { ⟦<DiskFiles<R> as Files>⟧.faults result ≡ 0 }
+        ensures lent { ⟦<DiskFiles<R> as Files>⟧.lent result ≡ 0 }
+    {
         DiskFiles {
             system,
             faults: 0,
@@ -115,7 +123,9 @@ impl<R: System<File = File>> Files for DiskFiles<R> {
 
     ghost holds = { λ _. no_files };
 
-    ghost faults = { λ f. f.faults };
+    ghost faults = { λ f. min f.faults (2 ^ 64 - 1) };
+
+    ghost bounded = { λ f. min-le_right f.faults (2 ^ 64 - 1) };
 
     ghost lent = { λ f. f.lent };
 

@@ -1,4 +1,4 @@
-ghost use Rattle.std.specs.Prelude.{◌≡◌, ◌<◌, ◌+◌, ◌-◌, [], List, ℕ, Bool, is_ok, if◌then◌else◌, IsTrue, IsSome, IsErr, IfOk, IfSome, OnOk, OnErr, Some, None};
+ghost use Rattle.std.specs.Prelude.{◌≡◌, ◌<◌, ◌≤◌, ◌+◌, ◌-◌, ◌^◌, [], List, ℕ, Bool, is_ok, if◌then◌else◌, IsTrue, IsSome, IsErr, IfOk, IfSome, OnOk, OnErr, Some, None};
 ghost use Rattle.ds_port.specs.Causes.{HasCause};
 ghost use Rattle.ds_port.specs.FileMap.{FileMap, file_at, with_file};
 
@@ -82,4 +82,7 @@ pub trait Files {
     ghost inputs_tell: { IsTrue tells → IsTrue Self.Input.tells };
 
     ghost outputs_tell: { IsTrue tells → IsTrue Self.Output.tells };
+
+    /// No count is greater.
+    ghost bounded: { (f : Self) → faults f ≤ 2 ^ 64 - 1 };
 }

@@ -1,4 +1,5 @@
-ghost use Rattle.std.specs.Prelude.{◌≡◌, ◌≢◌, ◌↔◌, ◌⊎◌, ◌<◌, ◌≤◌, ◌+◌, ◌-◌, ℕ, is_ok, if◌then◌else◌, [], true, false, vec_capacity, vec_len, IsTrue, IsErr, IsSome, IfOk, IfSome, IfNone, OnOk, OnErr, Some, None, Err};
+ghost use Rattle.std.specs.Prelude.{◌≡◌, ◌≢◌, ◌↔◌, ◌⊎◌, ◌<◌, ◌≤◌, ◌+◌, ◌-◌, ◌^◌, ℕ, is_ok, if◌then◌else◌, [], true, false, vec_capacity, vec_len, IsTrue, IsErr, IsSome, IfOk, IfSome, IfNone, OnOk, OnErr, Some, None, Err};
+ghost use Rattle.std.proofs.Math.Nat.{min-le_right};
 ghost use Rattle.ds_port.specs.FileMap.{file_at, with_file, no_files, files_of_list};
 
 use crate::{DeviceFault, Failures, Files, FindFault, MakeFault, MemSink, MemSource, Sink, Source};
@@ -20,11 +21,11 @@ pub struct MemFiles<P: Failures> {
 }
 
 impl<P: Failures> MemFiles<P> {
-    ghost use Rattle.ds_port.specs.Causes.{HasCause};
+    ghost use Rattle.ds_port.specs.Causes.{HasCause, both};
 
     pub fn new(alloc: Global, failures: P, inner: P) -> MemFiles<P>
         ensures holds { files_of_list result.files.items ≡ no_files }
-        ensures faults { P.count result.failures + result.returned ≡ P.count failures }
+        ensures faults { both (P.count result.failures) result.returned ≡ P.count failures }
         ensures failures { result.failures ≡ failures }
         ensures inner { result.inner ≡ inner }
         ensures out { result.out ≡ 0 }
@@ -52,7 +53,7 @@ impl<P: Failures> MemFiles<P> {
     pub fn put(&mut self, name: Name, bytes: Bytes) -> Result<(), NoMemory>
         ensures ok { OnOk result (files_of_list self.new.files.items ≡ with_file (files_of_list self.old.files.items) name bytes) }
         ensures err { OnErr result (files_of_list self.new.files.items ≡ files_of_list self.old.files.items) }
-        ensures faults { P.count self.new.failures + self.new.returned ≡ P.count self.old.failures + self.old.returned }
+        ensures faults { both (P.count self.new.failures) self.new.returned ≡ both (P.count self.old.failures) self.old.returned }
         ensures uncounted { self.new.failures ≡ self.old.failures }
         ensures inner { self.new.inner ≡ self.old.inner }
         ensures out { self.new.out ≡ self.old.out }
@@ -66,7 +67,7 @@ impl<P: Failures> MemFiles<P> {
 
     fn take_back(&mut self, failed: bool)
         ensures same { files_of_list self.new.files.items ≡ files_of_list self.old.files.items }
-        ensures cause { HasCause (P.count self.old.failures + self.old.returned) (P.count self.new.failures + self.new.returned) (IsTrue failed) }
+        ensures cause { HasCause (both (P.count self.old.failures) self.old.returned) (both (P.count self.new.failures) self.new.returned) (IsTrue failed) }
         ensures kept { failed ≡ false → self.new.returned ≡ self.old.returned }
         ensures uncounted { self.new.failures ≡ self.old.failures }
         ensures inner { self.new.inner ≡ self.old.inner }
@@ -100,7 +101,7 @@ fn newest<'a>(files: &'a [(Name, Bytes)], name: &[u8]) -> Option<&'a [u8]>
 }
 
 impl<P: Failures + Send> Files for MemFiles<P> {
-    ghost use Rattle.ds_port.specs.Causes.{HasCause};
+    ghost use Rattle.ds_port.specs.Causes.{HasCause, both};
     ghost use Rattle.ds_port.specs.Failing.{IsCounted, NextFails, StartsAnew};
 
     type Input = MemSource<P>;
@@ -111,7 +112,9 @@ impl<P: Failures + Send> Files for MemFiles<P> {
 
     ghost holds = { λ f. files_of_list f.files.items };
 
-    ghost faults = { λ f. P.count f.failures + f.returned };
+    ghost faults = { λ f. both (P.count f.failures) f.returned };
+
+    ghost bounded = { λ f. min-le_right (P.count f.failures + f.returned) (2 ^ 64 - 1) };
 
     ghost lent = { λ f. f.lent };
 
@@ -130,8 +133,8 @@ impl<P: Failures + Send> Files for MemFiles<P> {
         ensures absent { result ≡ Err FindFault.Absent → file_at (files_of_list self.old.files.items) name.now ≡ None }
         ensures same { files_of_list self.new.files.items ≡ files_of_list self.old.files.items }
         ensures lent { self.new.lent ≡ (if is_ok result then self.old.lent + 1 else self.old.lent) }
-        ensures cause { HasCause (P.count self.old.failures + self.old.returned) (P.count self.new.failures + self.new.returned) (result ≡ Err FindFault.Device) }
-        ensures kept { result ≢ Err FindFault.Device → P.count self.new.failures + self.new.returned ≡ P.count self.old.failures + self.old.returned }
+        ensures cause { HasCause (both (P.count self.old.failures) self.old.returned) (both (P.count self.new.failures) self.new.returned) (result ≡ Err FindFault.Device) }
+        ensures kept { result ≢ Err FindFault.Device → both (P.count self.new.failures) self.new.returned ≡ both (P.count self.old.failures) self.old.returned }
     {
         if self.failures.fails() {
             return Err(FindFault::Device);
@@ -160,8 +163,8 @@ impl<P: Failures + Send> Files for MemFiles<P> {
         ensures name { IfOk result (λ output. ⟦<MemSink<P> as Sink>⟧.name output ≡ Some name.now) }
         ensures same { files_of_list self.new.files.items ≡ files_of_list self.old.files.items }
         ensures lent { self.new.lent ≡ (if is_ok result then self.old.lent + 1 else self.old.lent) }
-        ensures cause { HasCause (P.count self.old.failures + self.old.returned) (P.count self.new.failures + self.new.returned) (result ≡ Err MakeFault.Device) }
-        ensures kept { result ≢ Err MakeFault.Device → P.count self.new.failures + self.new.returned ≡ P.count self.old.failures + self.old.returned }
+        ensures cause { HasCause (both (P.count self.old.failures) self.old.returned) (both (P.count self.new.failures) self.new.returned) (result ≡ Err MakeFault.Device) }
+        ensures kept { result ≢ Err MakeFault.Device → both (P.count self.new.failures) self.new.returned ≡ both (P.count self.old.failures) self.old.returned }
     {
         if self.failures.fails() {
             return Err(MakeFault::Device);
@@ -191,9 +194,9 @@ impl<P: Failures + Send> Files for MemFiles<P> {
         ensures ok { OnOk result (IfSome (⟦<MemSink<P> as Sink>⟧.name output) (λ name. files_of_list self.new.files.items ≡ with_file (files_of_list self.old.files.items) name (⟦<MemSink<P> as Sink>⟧.held output))) }
         ensures err { OnErr result (files_of_list self.new.files.items ≡ files_of_list self.old.files.items) }
         ensures lent { self.new.lent ≡ self.old.lent - 1 }
-        ensures cause { HasCause (P.count self.old.failures + self.old.returned) (P.count self.new.failures + self.new.returned) (IsErr result) }
-        ensures returned { HasCause (P.count self.old.failures + self.old.returned) (P.count self.new.failures + self.new.returned) (0 < ⟦<MemSink<P> as Sink>⟧.faults output) }
-        ensures kept { OnOk result (⟦<MemSink<P> as Sink>⟧.faults output ≡ 0 → P.count self.new.failures + self.new.returned ≡ P.count self.old.failures + self.old.returned) }
+        ensures cause { HasCause (both (P.count self.old.failures) self.old.returned) (both (P.count self.new.failures) self.new.returned) (IsErr result) }
+        ensures returned { HasCause (both (P.count self.old.failures) self.old.returned) (both (P.count self.new.failures) self.new.returned) (0 < ⟦<MemSink<P> as Sink>⟧.faults output) }
+        ensures kept { OnOk result (⟦<MemSink<P> as Sink>⟧.faults output ≡ 0 → both (P.count self.new.failures) self.new.returned ≡ both (P.count self.old.failures) self.old.returned) }
     {
         self.take_back(output.has_failed());
         self.out = self.out.saturating_sub(1);
@@ -217,8 +220,8 @@ impl<P: Failures + Send> Files for MemFiles<P> {
         ensures out { self.new.out ≡ self.old.out - 1 }
         ensures same { files_of_list self.new.files.items ≡ files_of_list self.old.files.items }
         ensures lent { self.new.lent ≡ self.old.lent - 1 }
-        ensures returned { HasCause (P.count self.old.failures + self.old.returned) (P.count self.new.failures + self.new.returned) (0 < ⟦<MemSink<P> as Sink>⟧.faults output) }
-        ensures kept { ⟦<MemSink<P> as Sink>⟧.faults output ≡ 0 → P.count self.new.failures + self.new.returned ≡ P.count self.old.failures + self.old.returned }
+        ensures returned { HasCause (both (P.count self.old.failures) self.old.returned) (both (P.count self.new.failures) self.new.returned) (0 < ⟦<MemSink<P> as Sink>⟧.faults output) }
+        ensures kept { ⟦<MemSink<P> as Sink>⟧.faults output ≡ 0 → both (P.count self.new.failures) self.new.returned ≡ both (P.count self.old.failures) self.old.returned }
     {
         self.take_back(output.has_failed());
         self.out = self.out.saturating_sub(1);
@@ -230,8 +233,8 @@ impl<P: Failures + Send> Files for MemFiles<P> {
         ensures out { self.new.out ≡ self.old.out }
         ensures same { files_of_list self.new.files.items ≡ files_of_list self.old.files.items }
         ensures lent { self.new.lent ≡ self.old.lent - 1 }
-        ensures returned { HasCause (P.count self.old.failures + self.old.returned) (P.count self.new.failures + self.new.returned) (0 < ⟦<MemSource<P> as Source>⟧.faults input) }
-        ensures kept { ⟦<MemSource<P> as Source>⟧.faults input ≡ 0 → P.count self.new.failures + self.new.returned ≡ P.count self.old.failures + self.old.returned }
+        ensures returned { HasCause (both (P.count self.old.failures) self.old.returned) (both (P.count self.new.failures) self.new.returned) (0 < ⟦<MemSource<P> as Source>⟧.faults input) }
+        ensures kept { ⟦<MemSource<P> as Source>⟧.faults input ≡ 0 → both (P.count self.new.failures) self.new.returned ≡ both (P.count self.old.failures) self.old.returned }
     {
         self.take_back(input.has_failed());
     }

@@ -1,6 +1,7 @@
-ghost use Rattle.std.specs.Prelude.{◌≡◌, ◌<◌, ◌↔◌, ◌⊎◌, ◌+◌, ◌++◌, [], IsTrue, IsErr, IsSome, IfOk, OnOk, OnErr, true, length, take, vec_capacity, vec_len, Some};
+ghost use Rattle.std.specs.Prelude.{◌≡◌, ◌<◌, ◌↔◌, ◌⊎◌, ◌+◌, ◌-◌, ◌^◌, ◌++◌, [], IsTrue, IsErr, IsSome, IfOk, OnOk, OnErr, true, length, take, vec_capacity, vec_len, Some};
 ghost use Rattle.std.specs.Io.{WritesAtMost};
-ghost use Rattle.ds_port.specs.Causes.{HasCause};
+ghost use Rattle.std.proofs.Math.Nat.{min-le_right};
+ghost use Rattle.ds_port.specs.Causes.{HasCause, both};
 ghost use Rattle.ds_port.specs.Failing.{IsCounted, NextFails};
 
 use crate::{DeviceFault, Failures, Sink};
@@ -66,7 +67,9 @@ impl<P: Failures> Sink for MemSink<P> {
 
     ghost name = { λ s. s.name };
 
-    ghost faults = { λ s. P.count s.failures + s.refused };
+    ghost faults = { λ s. both (P.count s.failures) s.refused };
+
+    ghost bounded = { λ s. min-le_right (P.count s.failures + s.refused) (2 ^ 64 - 1) };
 
     fn write(&mut self, bytes: &[u8]) -> Result<usize, DeviceFault>
         ensures listed { NextFails P.numbers P.calls self.old.failures → IsErr result }
