@@ -6,6 +6,9 @@ use crate::{DeviceFault, Failures, Files, FindFault, MakeFault, MemSink, MemSour
 use ds_value::{Bytes, Name, NoMemory};
 use std::alloc::Global;
 
+/// The bytes that an output takes before it wants memory again.
+const ROOM: usize = 1 << 16;
+
 /// Files in memory, the newest first. `failures` are those of its own calls, and `inner` those of
 /// each input and output, which counts its own. Each output that is out has its entry in `files`
 /// already, as room that no other call takes.
@@ -159,6 +162,7 @@ impl<P: Failures + Send> Files for MemFiles<P> {
         ensures anew { IfOk result (λ output. StartsAnew P.numbers P.calls self.old.inner output.failures) }
         ensures out { self.new.out ≡ (if is_ok result then self.old.out + 1 else self.old.out) }
         ensures empty { IfOk result (λ output. ⟦<MemSink<P> as Sink>⟧.held output ≡ []) }
+        ensures room { IfOk result (λ output. 2 ^ 16 ≤ vec_capacity output.bytes) }
         ensures fresh { IfOk result (λ output. ⟦<MemSink<P> as Sink>⟧.faults output ≡ 0) }
         ensures name { IfOk result (λ output. ⟦<MemSink<P> as Sink>⟧.name output ≡ Some name.now) }
         ensures same { files_of_list self.new.files.items ≡ files_of_list self.old.files.items }
@@ -179,9 +183,12 @@ impl<P: Failures + Send> Files for MemFiles<P> {
         ) else {
             return Err(MakeFault::Memory);
         };
+        let Ok(output) = MemSink::with_room(alloc, Some(name), failures, ROOM) else {
+            return Err(MakeFault::Memory);
+        };
         self.out = out;
         self.lent = lent;
-        Ok(MemSink::new(alloc, Some(name), failures))
+        Ok(output)
     }
 
     fn commit(&mut self, output: MemSink<P>) -> Result<(), DeviceFault>
