@@ -1,3 +1,4 @@
 pub mod First
 pub mod Maps
+pub mod Paths
 pub mod Taken

@@ -1,4 +1,6 @@
-ghost use Rattle.std.specs.Prelude.{◌≡◌, ◌↔◌, ℕ, List, [], false, IsTrue, IfOk};
+ghost use Rattle.std.specs.Prelude.{◌≡◌, ◌↔◌, ◌≤◌, ◌-◌, ◌^◌, ℕ, min, List, [], false, IsTrue, IfOk};
+ghost use Rattle.std.proofs.Common.{zero-le};
+ghost use Rattle.std.proofs.Math.Nat.{min-le_right};
 ghost use Rattle.ds_port.specs.Causes.{HasCause};
 ghost use Rattle.ds_port.specs.Failing.{IsCounted, NextFails, StartsAnew};
 
@@ -32,6 +34,9 @@ pub trait Failures: Drop {
         Self: Sized,
         ensures anew { IfOk result (λ fresh. StartsAnew numbers calls self.now fresh) }
         ensures faults { IfOk result (λ fresh. count fresh ≡ 0) };
+
+    /// No count is greater.
+    ghost bounded: { (f : Self) → count f ≤ 2 ^ 64 - 1 };
 }
 
 /// No call fails.
@@ -44,6 +49,8 @@ impl Failures for NeverFails {
     ghost numbers = { λ _. [] };
 
     ghost calls = { λ _. 0 };
+
+    ghost bounded = { λ _. zero-le };
 
     fn fails(&mut self) -> bool {
         false
@@ -81,11 +88,13 @@ impl FailsAt {
 }
 
 impl Failures for FailsAt {
-    ghost count = { λ f. f.faults };
+    ghost count = { λ f. min f.faults (2 ^ 64 - 1) };
 
     ghost numbers = { λ f. f.numbers };
 
     ghost calls = { λ f. f.calls };
+
+    ghost bounded = { λ f. min-le_right f.faults (2 ^ 64 - 1) };
 
     fn fails(&mut self) -> bool {
         let fails = self.numbers.as_slice().contains(&self.calls);

@@ -5,6 +5,7 @@ ghost use Rattle.ds_port.specs.FileMap.{MapLaws};
 
 mod disk;
 mod failures;
+mod file_id;
 mod files;
 mod memory_files;
 mod memory_sink;

@@ -1,9 +1,13 @@
-ghost use Rattle.std.specs.Prelude.{◌≡◌, ◌≢◌, ◌↔◌, ◌⊎◌, ◌<◌, ◌≤◌, ◌+◌, ◌-◌, ℕ, is_ok, if◌then◌else◌, [], true, false, vec_capacity, vec_len, IsTrue, IsErr, IsSome, IfOk, IfSome, IfNone, OnOk, OnErr, Some, None, Err};
+ghost use Rattle.std.specs.Prelude.{◌≡◌, ◌≢◌, ◌↔◌, ◌⊎◌, ◌<◌, ◌≤◌, ◌+◌, ◌-◌, ◌^◌, ℕ, is_ok, if◌then◌else◌, [], true, false, vec_capacity, vec_len, IsTrue, IsErr, IsSome, IfOk, IfSome, IfNone, OnOk, OnErr, Some, None, Err};
+ghost use Rattle.std.proofs.Math.Nat.{min-le_right};
 ghost use Rattle.ds_port.specs.FileMap.{file_at, with_file, no_files, files_of_list};
 
 use crate::{DeviceFault, Failures, Files, FindFault, MakeFault, MemSink, MemSource, Sink, Source};
 use ds_value::{Bytes, Name, NoMemory};
 use std::alloc::Global;
+
+/// The bytes that an output takes before it wants memory again.
+const ROOM: usize = 1 << 16;
 
 /// Files in memory, the newest first. `failures` are those of its own calls, and `inner` those of
 /// each input and output, which counts its own. Each output that is out has its entry in `files`
@@ -15,18 +19,20 @@ pub struct MemFiles<P: Failures> {
     failures: P,
     inner: P,
     returned: u64,
+    lent: u64,
     ghost room: { vec_len files + out ≤ vec_capacity files },
 }
 
 impl<P: Failures> MemFiles<P> {
-    ghost use Rattle.ds_port.specs.Causes.{HasCause};
+    ghost use Rattle.ds_port.specs.Causes.{HasCause, both};
 
     pub fn new(alloc: Global, failures: P, inner: P) -> MemFiles<P>
         ensures holds { files_of_list result.files.items ≡ no_files }
-        ensures faults { P.count result.failures + result.returned ≡ P.count failures }
+        ensures faults { both (P.count result.failures) result.returned ≡ P.count failures }
         ensures failures { result.failures ≡ failures }
         ensures inner { result.inner ≡ inner }
         ensures out { result.out ≡ 0 }
+        ensures lent { result.lent ≡ 0 }
     {
         MemFiles {
             files: Vec::new(alloc),
@@ -34,6 +40,7 @@ impl<P: Failures> MemFiles<P> {
             failures,
             inner,
             returned: 0,
+            lent: 0,
         }
     }
 
@@ -49,10 +56,11 @@ impl<P: Failures> MemFiles<P> {
     pub fn put(&mut self, name: Name, bytes: Bytes) -> Result<(), NoMemory>
         ensures ok { OnOk result (files_of_list self.new.files.items ≡ with_file (files_of_list self.old.files.items) name bytes) }
         ensures err { OnErr result (files_of_list self.new.files.items ≡ files_of_list self.old.files.items) }
-        ensures faults { P.count self.new.failures + self.new.returned ≡ P.count self.old.failures + self.old.returned }
+        ensures faults { both (P.count self.new.failures) self.new.returned ≡ both (P.count self.old.failures) self.old.returned }
         ensures uncounted { self.new.failures ≡ self.old.failures }
         ensures inner { self.new.inner ≡ self.old.inner }
         ensures out { self.new.out ≡ self.old.out }
+        ensures lent { self.new.lent ≡ self.old.lent }
     {
         let room = self.out.checked_add(1).ok_or(NoMemory)?;
         self.files.reserve(room)?;
@@ -62,13 +70,15 @@ impl<P: Failures> MemFiles<P> {
 
     fn take_back(&mut self, failed: bool)
         ensures same { files_of_list self.new.files.items ≡ files_of_list self.old.files.items }
-        ensures cause { HasCause (P.count self.old.failures + self.old.returned) (P.count self.new.failures + self.new.returned) (IsTrue failed) }
+        ensures cause { HasCause (both (P.count self.old.failures) self.old.returned) (both (P.count self.new.failures) self.new.returned) (IsTrue failed) }
         ensures kept { failed ≡ false → self.new.returned ≡ self.old.returned }
         ensures uncounted { self.new.failures ≡ self.old.failures }
         ensures inner { self.new.inner ≡ self.old.inner }
         ensures files { self.new.files ≡ self.old.files }
         ensures out { self.new.out ≡ self.old.out }
+        ensures lent { self.new.lent ≡ self.old.lent - 1 }
     {
+        self.lent = self.lent.saturating_sub(1);
         if failed {
             self.returned = self.returned.saturating_add(1);
         }
@@ -94,7 +104,7 @@ fn newest<'a>(files: &'a [(Name, Bytes)], name: &[u8]) -> Option<&'a [u8]>
 }
 
 impl<P: Failures + Send> Files for MemFiles<P> {
-    ghost use Rattle.ds_port.specs.Causes.{HasCause};
+    ghost use Rattle.ds_port.specs.Causes.{HasCause, both};
     ghost use Rattle.ds_port.specs.Failing.{IsCounted, NextFails, StartsAnew};
 
     type Input = MemSource<P>;
@@ -105,7 +115,11 @@ impl<P: Failures + Send> Files for MemFiles<P> {
 
     ghost holds = { λ f. files_of_list f.files.items };
 
-    ghost faults = { λ f. P.count f.failures + f.returned };
+    ghost faults = { λ f. both (P.count f.failures) f.returned };
+
+    ghost bounded = { λ f. min-le_right (P.count f.failures + f.returned) (2 ^ 64 - 1) };
+
+    ghost lent = { λ f. f.lent };
 
     ghost inputs_tell = { λ t. t };
 
@@ -121,8 +135,9 @@ impl<P: Failures + Send> Files for MemFiles<P> {
         ensures fresh { IfOk result (λ input. ⟦<MemSource<P> as Source>⟧.faults input ≡ 0) }
         ensures absent { result ≡ Err FindFault.Absent → file_at (files_of_list self.old.files.items) name.now ≡ None }
         ensures same { files_of_list self.new.files.items ≡ files_of_list self.old.files.items }
-        ensures cause { HasCause (P.count self.old.failures + self.old.returned) (P.count self.new.failures + self.new.returned) (result ≡ Err FindFault.Device) }
-        ensures kept { result ≢ Err FindFault.Device → P.count self.new.failures + self.new.returned ≡ P.count self.old.failures + self.old.returned }
+        ensures lent { self.new.lent ≡ (if is_ok result then self.old.lent + 1 else self.old.lent) }
+        ensures cause { HasCause (both (P.count self.old.failures) self.old.returned) (both (P.count self.new.failures) self.new.returned) (result ≡ Err FindFault.Device) }
+        ensures kept { result ≢ Err FindFault.Device → both (P.count self.new.failures) self.new.returned ≡ both (P.count self.old.failures) self.old.returned }
     {
         if self.failures.fails() {
             return Err(FindFault::Device);
@@ -130,13 +145,14 @@ impl<P: Failures + Send> Files for MemFiles<P> {
         let Some(bytes) = newest(&self.files, name.as_slice()) else {
             return Err(FindFault::Absent);
         };
-        let Ok(bytes) = bytes.to_vec(alloc) else {
+        let (Some(lent), Ok(bytes)) = (self.lent.checked_add(1), bytes.to_vec(alloc)) else {
             return Err(FindFault::Memory);
         };
-        match self.inner.renewed(alloc) {
-            Ok(failures) => Ok(MemSource::new(bytes, failures)),
-            Err(_) => Err(FindFault::Memory),
-        }
+        let Ok(failures) = self.inner.renewed(alloc) else {
+            return Err(FindFault::Memory);
+        };
+        self.lent = lent;
+        Ok(MemSource::new(bytes, failures))
     }
 
     fn create(&mut self, alloc: Global, name: &Name) -> Result<MemSink<P>, MakeFault>
@@ -146,16 +162,18 @@ impl<P: Failures + Send> Files for MemFiles<P> {
         ensures anew { IfOk result (λ output. StartsAnew P.numbers P.calls self.old.inner output.failures) }
         ensures out { self.new.out ≡ (if is_ok result then self.old.out + 1 else self.old.out) }
         ensures empty { IfOk result (λ output. ⟦<MemSink<P> as Sink>⟧.held output ≡ []) }
+        ensures room { IfOk result (λ output. 2 ^ 16 ≤ vec_capacity output.bytes) }
         ensures fresh { IfOk result (λ output. ⟦<MemSink<P> as Sink>⟧.faults output ≡ 0) }
         ensures name { IfOk result (λ output. ⟦<MemSink<P> as Sink>⟧.name output ≡ Some name.now) }
         ensures same { files_of_list self.new.files.items ≡ files_of_list self.old.files.items }
-        ensures cause { HasCause (P.count self.old.failures + self.old.returned) (P.count self.new.failures + self.new.returned) (result ≡ Err MakeFault.Device) }
-        ensures kept { result ≢ Err MakeFault.Device → P.count self.new.failures + self.new.returned ≡ P.count self.old.failures + self.old.returned }
+        ensures lent { self.new.lent ≡ (if is_ok result then self.old.lent + 1 else self.old.lent) }
+        ensures cause { HasCause (both (P.count self.old.failures) self.old.returned) (both (P.count self.new.failures) self.new.returned) (result ≡ Err MakeFault.Device) }
+        ensures kept { result ≢ Err MakeFault.Device → both (P.count self.new.failures) self.new.returned ≡ both (P.count self.old.failures) self.old.returned }
     {
         if self.failures.fails() {
             return Err(MakeFault::Device);
         }
-        let Some(out) = self.out.checked_add(1) else {
+        let (Some(out), Some(lent)) = (self.out.checked_add(1), self.lent.checked_add(1)) else {
             return Err(MakeFault::Memory);
         };
         let (Ok(()), Ok(name), Ok(failures)) = (
@@ -165,8 +183,12 @@ impl<P: Failures + Send> Files for MemFiles<P> {
         ) else {
             return Err(MakeFault::Memory);
         };
+        let Ok(output) = MemSink::with_room(alloc, Some(name), failures, ROOM) else {
+            return Err(MakeFault::Memory);
+        };
         self.out = out;
-        Ok(MemSink::new(alloc, Some(name), failures))
+        self.lent = lent;
+        Ok(output)
     }
 
     fn commit(&mut self, output: MemSink<P>) -> Result<(), DeviceFault>
@@ -178,9 +200,10 @@ impl<P: Failures + Send> Files for MemFiles<P> {
         ensures out { self.new.out ≡ self.old.out - 1 }
         ensures ok { OnOk result (IfSome (⟦<MemSink<P> as Sink>⟧.name output) (λ name. files_of_list self.new.files.items ≡ with_file (files_of_list self.old.files.items) name (⟦<MemSink<P> as Sink>⟧.held output))) }
         ensures err { OnErr result (files_of_list self.new.files.items ≡ files_of_list self.old.files.items) }
-        ensures cause { HasCause (P.count self.old.failures + self.old.returned) (P.count self.new.failures + self.new.returned) (IsErr result) }
-        ensures returned { HasCause (P.count self.old.failures + self.old.returned) (P.count self.new.failures + self.new.returned) (0 < ⟦<MemSink<P> as Sink>⟧.faults output) }
-        ensures kept { OnOk result (⟦<MemSink<P> as Sink>⟧.faults output ≡ 0 → P.count self.new.failures + self.new.returned ≡ P.count self.old.failures + self.old.returned) }
+        ensures lent { self.new.lent ≡ self.old.lent - 1 }
+        ensures cause { HasCause (both (P.count self.old.failures) self.old.returned) (both (P.count self.new.failures) self.new.returned) (IsErr result) }
+        ensures returned { HasCause (both (P.count self.old.failures) self.old.returned) (both (P.count self.new.failures) self.new.returned) (0 < ⟦<MemSink<P> as Sink>⟧.faults output) }
+        ensures kept { OnOk result (⟦<MemSink<P> as Sink>⟧.faults output ≡ 0 → both (P.count self.new.failures) self.new.returned ≡ both (P.count self.old.failures) self.old.returned) }
     {
         self.take_back(output.has_failed());
         self.out = self.out.saturating_sub(1);
@@ -203,8 +226,9 @@ impl<P: Failures + Send> Files for MemFiles<P> {
         ensures inner { self.new.inner ≡ self.old.inner }
         ensures out { self.new.out ≡ self.old.out - 1 }
         ensures same { files_of_list self.new.files.items ≡ files_of_list self.old.files.items }
-        ensures returned { HasCause (P.count self.old.failures + self.old.returned) (P.count self.new.failures + self.new.returned) (0 < ⟦<MemSink<P> as Sink>⟧.faults output) }
-        ensures kept { ⟦<MemSink<P> as Sink>⟧.faults output ≡ 0 → P.count self.new.failures + self.new.returned ≡ P.count self.old.failures + self.old.returned }
+        ensures lent { self.new.lent ≡ self.old.lent - 1 }
+        ensures returned { HasCause (both (P.count self.old.failures) self.old.returned) (both (P.count self.new.failures) self.new.returned) (0 < ⟦<MemSink<P> as Sink>⟧.faults output) }
+        ensures kept { ⟦<MemSink<P> as Sink>⟧.faults output ≡ 0 → both (P.count self.new.failures) self.new.returned ≡ both (P.count self.old.failures) self.old.returned }
     {
         self.take_back(output.has_failed());
         self.out = self.out.saturating_sub(1);
@@ -215,8 +239,9 @@ impl<P: Failures + Send> Files for MemFiles<P> {
         ensures inner { self.new.inner ≡ self.old.inner }
         ensures out { self.new.out ≡ self.old.out }
         ensures same { files_of_list self.new.files.items ≡ files_of_list self.old.files.items }
-        ensures returned { HasCause (P.count self.old.failures + self.old.returned) (P.count self.new.failures + self.new.returned) (0 < ⟦<MemSource<P> as Source>⟧.faults input) }
-        ensures kept { ⟦<MemSource<P> as Source>⟧.faults input ≡ 0 → P.count self.new.failures + self.new.returned ≡ P.count self.old.failures + self.old.returned }
+        ensures lent { self.new.lent ≡ self.old.lent - 1 }
+        ensures returned { HasCause (both (P.count self.old.failures) self.old.returned) (both (P.count self.new.failures) self.new.returned) (0 < ⟦<MemSource<P> as Source>⟧.faults input) }
+        ensures kept { ⟦<MemSource<P> as Source>⟧.faults input ≡ 0 → both (P.count self.new.failures) self.new.returned ≡ both (P.count self.old.failures) self.old.returned }
     {
         self.take_back(input.has_failed());
     }

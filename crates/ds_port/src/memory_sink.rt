@@ -1,13 +1,14 @@
-ghost use Rattle.std.specs.Prelude.{◌≡◌, ◌<◌, ◌↔◌, ◌⊎◌, ◌+◌, ◌++◌, [], IsTrue, IsErr, IsSome, IfOk, OnOk, OnErr, true, length, take, vec_capacity, vec_len, Some};
+ghost use Rattle.std.specs.Prelude.{◌≡◌, ◌<◌, ◌≤◌, ◌↔◌, ◌⊎◌, ◌+◌, ◌-◌, ◌^◌, ◌++◌, [], IsTrue, IsErr, IsSome, IfOk, OnOk, OnErr, true, length, take, vec_capacity, vec_len, Some};
 ghost use Rattle.std.specs.Io.{WritesAtMost};
-ghost use Rattle.ds_port.specs.Causes.{HasCause};
+ghost use Rattle.std.proofs.Math.Nat.{min-le_right};
+ghost use Rattle.ds_port.specs.Causes.{HasCause, both};
 ghost use Rattle.ds_port.specs.Failing.{IsCounted, NextFails};
 
 use crate::{DeviceFault, Failures, Sink};
-use ds_value::{Bytes, Name};
+use ds_value::{Bytes, Name, NoMemory};
 use std::alloc::Global;
 
-/// A sink in memory. Want of memory in a write counts as a fault.
+/// A sink in memory. Want of memory in a write counts as a fault; there is none while its room lasts.
 #[derive(Drop)]
 pub struct MemSink<P: Failures> {
     bytes: Vec<u8>,
@@ -29,6 +30,27 @@ impl<P: Failures> MemSink<P> {
             failures,
             refused: 0,
         }
+    }
+
+    /// One that has room for so many bytes before it wants memory in a write.
+    pub fn with_room(
+        alloc: Global,
+        name: Option<Name>,
+        failures: P,
+        room: usize,
+    ) -> Result<MemSink<P>, NoMemory>
+        ensures held { IfOk result (λ sink. ⟦<MemSink<P> as Sink>⟧.held sink ≡ []) }
+        ensures name { IfOk result (λ sink. ⟦<MemSink<P> as Sink>⟧.name sink ≡ name) }
+        ensures faults { IfOk result (λ sink. ⟦<MemSink<P> as Sink>⟧.faults sink ≡ P.count failures) }
+        ensures failures { IfOk result (λ sink. sink.failures ≡ failures) }
+        ensures room { IfOk result (λ sink. room ≤ vec_capacity sink.bytes) }
+    {
+        Ok(MemSink {
+            bytes: Vec::with_capacity(alloc, room)?,
+            name,
+            failures,
+            refused: 0,
+        })
     }
 
     pub fn has_failed(&self) -> bool
@@ -66,11 +88,14 @@ impl<P: Failures> Sink for MemSink<P> {
 
     ghost name = { λ s. s.name };
 
-    ghost faults = { λ s. P.count s.failures + s.refused };
+    ghost faults = { λ s. both (P.count s.failures) s.refused };
+
+    ghost bounded = { λ s. min-le_right (P.count s.failures + s.refused) (2 ^ 64 - 1) };
 
     fn write(&mut self, bytes: &[u8]) -> Result<usize, DeviceFault>
         ensures listed { NextFails P.numbers P.calls self.old.failures → IsErr result }
         ensures full { OnErr result (NextFails P.numbers P.calls self.old.failures ⊎ (vec_capacity self.old.bytes < vec_len self.old.bytes + length bytes.now)) }
+        ensures room { vec_capacity self.old.bytes ≤ vec_capacity self.new.bytes }
         ensures counted { IsCounted P.numbers P.calls self.old.failures self.new.failures }
         ensures bound { WritesAtMost result bytes.now }
         ensures some { IfOk result (λ n. 0 < length bytes.now → 0 < n) }

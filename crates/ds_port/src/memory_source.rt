@@ -41,6 +41,8 @@ impl<P: Failures> Source for MemSource<P> {
 
     ghost faults = { λ s. P.count s.failures };
 
+    ghost bounded = { λ s. P.bounded s.failures };
+
     fn read(&mut self, buf: &mut [u8]) -> Result<usize, DeviceFault>
         ensures listed { IsErr result ↔ NextFails P.numbers P.calls self.old.failures }
         ensures counted { IsCounted P.numbers P.calls self.old.failures self.new.failures }

@@ -1,5 +1,6 @@
-ghost use Rattle.std.specs.Prelude.{◌≡◌, ◌<◌, false, [], None, length, IfOk, IsErr};
+ghost use Rattle.std.specs.Prelude.{◌≡◌, ◌<◌, ◌-◌, ◌^◌, min, false, [], None, length, IfOk, IsErr};
 ghost use Rattle.std.specs.Io.{WritesAtMost};
+ghost use Rattle.std.proofs.Math.Nat.{min-le_right};
 ghost use Rattle.ds_port.specs.Causes.{HasCause};
 
 use crate::{DeviceFault, Sink};
@@ -32,7 +33,9 @@ pub struct StdoutSink<W: Write + Drop> {
 }
 
 impl<W: Write + Drop> StdoutSink<W> {
-    pub fn new(writer: W) -> StdoutSink<W> {
+    pub fn new(writer: W) -> StdoutSink<W>
+        ensures { ⟦<StdoutSink<W> as Sink>⟧.faults result ≡ 0 }
+    {
         StdoutSink { writer, faults: 0 }
     }
 }
@@ -44,7 +47,9 @@ impl<W: Write + Drop> Sink for StdoutSink<W> {
 
     ghost name = { λ _. None };
 
-    ghost faults = { λ s. s.faults };
+    ghost faults = { λ s. min s.faults (2 ^ 64 - 1) };
+
+    ghost bounded = { λ s. min-le_right s.faults (2 ^ 64 - 1) };
 
     fn write(&mut self, bytes: &[u8]) -> Result<usize, DeviceFault> {
         write_once(&mut self.writer, &mut self.faults, bytes)

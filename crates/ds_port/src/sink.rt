@@ -1,4 +1,4 @@
-ghost use Rattle.std.specs.Prelude.{◌≡◌, ◌<◌, ◌++◌, List, ℕ, Bool, take, length, IsTrue, IsErr, IfOk, OnErr};
+ghost use Rattle.std.specs.Prelude.{◌≡◌, ◌<◌, ◌≤◌, ◌-◌, ◌^◌, ◌++◌, List, ℕ, Bool, take, length, IsTrue, IsErr, IfOk, OnErr};
 ghost use Rattle.std.specs.Io.{WritesAtMost};
 ghost use Rattle.std.specs.declared.option.Option.{Option};
 ghost use Rattle.ds_port.specs.Causes.{HasCause};
@@ -33,4 +33,7 @@ pub trait Sink {
         ensures held { held self.new ≡ held self.old }
         ensures name { name self.new ≡ name self.old }
         ensures cause { HasCause (faults self.old) (faults self.new) (IsErr result) };
+
+    /// No count is greater.
+    ghost bounded: { (s : Self) → faults s ≤ 2 ^ 64 - 1 };
 }

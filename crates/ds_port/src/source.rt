@@ -1,4 +1,4 @@
-ghost use Rattle.std.specs.Prelude.{◌≡◌, ◌<◌, ◌++◌, [], List, ℕ, Bool, take, length, IsTrue, IsErr, IfOk, OnErr};
+ghost use Rattle.std.specs.Prelude.{◌≡◌, ◌<◌, ◌≤◌, ◌-◌, ◌^◌, ◌++◌, [], List, ℕ, Bool, take, length, IsTrue, IsErr, IfOk, OnErr};
 ghost use Rattle.std.specs.Io.{ReadsAtMost};
 ghost use Rattle.ds_port.specs.Causes.{HasCause};
 
@@ -22,4 +22,7 @@ pub trait Source {
         ensures end { IsTrue tells → IfOk result (λ n. n ≡ 0 → 0 < length buf.old → rest self.old ≡ []) }
         ensures err { OnErr result (rest self.new ≡ rest self.old) }
         ensures cause { HasCause (faults self.old) (faults self.new) (IsErr result) };
+
+    /// No count is greater.
+    ghost bounded: { (s : Self) → faults s ≤ 2 ^ 64 - 1 };
 }

@@ -18,6 +18,8 @@ fn lists_tell_each_answer(rt: HostRuntime) -> Result<(), Fail> {
         .read(&mut buf)
         .unwrap();
     MemSink::new(alloc, None, NeverFails).finish().unwrap();
+    let mut roomy = MemSink::with_room(alloc, None, NeverFails, 8)?;
+    roomy.write(b"12345678").unwrap();
     let (own, inner) = (vec![in alloc; 3]?, vec![in alloc; 0]?);
     let mut files = MemFiles::new(alloc, FailsAt::new(own), FailsAt::new(inner));
     let mut first = files.create(alloc, &name)?;

@@ -24,7 +24,7 @@ fn main(rt: HostRuntime) -> ExitCode {
     }
     let mut out = StdoutSink::new(rt.stdout());
     let mut err = StdoutSink::new(rt.stderr());
-    let mut files = DiskFiles::new(rt);
+    let mut files = DiskFiles::new(alloc, rt);
     let status = osh_still(alloc, &words, &mut files, &mut out, &mut err);
     ExitCode::from(status.0)
 }
