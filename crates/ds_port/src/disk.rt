@@ -17,6 +17,7 @@ use std::rt::Files as System;
 pub struct DiskFiles<R: System<File = File>> {
     system: R,
     faults: u64,
+    lent: u64,
 }
 
 /// A file that is read.
@@ -90,11 +91,16 @@ fn path_of(alloc: Global, name: &Name, ending: &str) -> Result<String, AllocErro
 
 impl<R: System<File = File>> DiskFiles<R> {
     pub fn new(system: R) -> DiskFiles<R> {
-        DiskFiles { system, faults: 0 }
+        DiskFiles {
+            system,
+            faults: 0,
+            lent: 0,
+        }
     }
 
     fn count_fault(&mut self)
-        ensures { HasCause self.old.faults self.new.faults (Unit {0}) }
+        ensures cause { HasCause self.old.faults self.new.faults (Unit {0}) }
+        ensures lent { self.new.lent ≡ self.old.lent }
     {
         self.faults = self.faults.saturating_add(1);
     }
@@ -111,16 +117,21 @@ impl<R: System<File = File>> Files for DiskFiles<R> {
 
     ghost faults = { λ f. f.faults };
 
+    ghost lent = { λ f. f.lent };
+
     ghost inputs_tell = { λ t. t };
 
     ghost outputs_tell = { λ t. t };
 
     fn find(&mut self, alloc: Global, name: &Name) -> Result<DiskInput, FindFault> {
-        let Ok(path) = path_of(alloc, name, "") else {
+        let (Some(lent), Ok(path)) = (self.lent.checked_add(1), path_of(alloc, name, "")) else {
             return Err(FindFault::Memory);
         };
         match fs::open(&self.system, path.as_str()) {
-            Ok(file) => Ok(DiskInput { file, faults: 0 }),
+            Ok(file) => {
+                self.lent = lent;
+                Ok(DiskInput { file, faults: 0 })
+            }
             Err(error) if error.kind() == ErrorKind::NotFound => Err(FindFault::Absent),
             Err(_) => {
                 self.count_fault();
@@ -130,7 +141,8 @@ impl<R: System<File = File>> Files for DiskFiles<R> {
     }
 
     fn create(&mut self, alloc: Global, name: &Name) -> Result<DiskOutput, MakeFault> {
-        let (Ok(path), Ok(part), Ok(name)) = (
+        let (Some(lent), Ok(path), Ok(part), Ok(name)) = (
+            self.lent.checked_add(1),
             path_of(alloc, name, ""),
             path_of(alloc, name, ".part"),
             name.copied(),
@@ -138,13 +150,16 @@ impl<R: System<File = File>> Files for DiskFiles<R> {
             return Err(MakeFault::Memory);
         };
         match fs::create(&self.system, part.as_str()) {
-            Ok(file) => Ok(DiskOutput {
-                file,
-                name,
-                path,
-                part,
-                faults: 0,
-            }),
+            Ok(file) => {
+                self.lent = lent;
+                Ok(DiskOutput {
+                    file,
+                    name,
+                    path,
+                    part,
+                    faults: 0,
+                })
+            }
             Err(_) => {
                 self.count_fault();
                 Err(MakeFault::Device)
@@ -153,6 +168,7 @@ impl<R: System<File = File>> Files for DiskFiles<R> {
     }
 
     fn commit(&mut self, output: DiskOutput) -> Result<(), DeviceFault> {
+        self.lent = self.lent.saturating_sub(1);
         if output.faults > 0 {
             self.count_fault();
         }
@@ -167,6 +183,7 @@ impl<R: System<File = File>> Files for DiskFiles<R> {
     }
 
     fn discard(&mut self, output: DiskOutput) {
+        self.lent = self.lent.saturating_sub(1);
         let removed = fs::remove_file(&self.system, output.part.as_str());
         if output.faults > 0 || removed.is_err() {
             self.count_fault();
@@ -174,6 +191,7 @@ impl<R: System<File = File>> Files for DiskFiles<R> {
     }
 
     fn settle(&mut self, input: DiskInput) {
+        self.lent = self.lent.saturating_sub(1);
         if input.faults > 0 {
             self.count_fault();
         }

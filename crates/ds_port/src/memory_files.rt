@@ -15,6 +15,7 @@ pub struct MemFiles<P: Failures> {
     failures: P,
     inner: P,
     returned: u64,
+    lent: u64,
     ghost room: { vec_len files + out ≤ vec_capacity files },
 }
 
@@ -27,6 +28,7 @@ impl<P: Failures> MemFiles<P> {
         ensures failures { result.failures ≡ failures }
         ensures inner { result.inner ≡ inner }
         ensures out { result.out ≡ 0 }
+        ensures lent { result.lent ≡ 0 }
     {
         MemFiles {
             files: Vec::new(alloc),
@@ -34,6 +36,7 @@ impl<P: Failures> MemFiles<P> {
             failures,
             inner,
             returned: 0,
+            lent: 0,
         }
     }
 
@@ -53,6 +56,7 @@ impl<P: Failures> MemFiles<P> {
         ensures uncounted { self.new.failures ≡ self.old.failures }
         ensures inner { self.new.inner ≡ self.old.inner }
         ensures out { self.new.out ≡ self.old.out }
+        ensures lent { self.new.lent ≡ self.old.lent }
     {
         let room = self.out.checked_add(1).ok_or(NoMemory)?;
         self.files.reserve(room)?;
@@ -68,7 +72,9 @@ impl<P: Failures> MemFiles<P> {
         ensures inner { self.new.inner ≡ self.old.inner }
         ensures files { self.new.files ≡ self.old.files }
         ensures out { self.new.out ≡ self.old.out }
+        ensures lent { self.new.lent ≡ self.old.lent - 1 }
     {
+        self.lent = self.lent.saturating_sub(1);
         if failed {
             self.returned = self.returned.saturating_add(1);
         }
@@ -107,6 +113,8 @@ impl<P: Failures + Send> Files for MemFiles<P> {
 
     ghost faults = { λ f. P.count f.failures + f.returned };
 
+    ghost lent = { λ f. f.lent };
+
     ghost inputs_tell = { λ t. t };
 
     ghost outputs_tell = { λ t. t };
@@ -121,6 +129,7 @@ impl<P: Failures + Send> Files for MemFiles<P> {
         ensures fresh { IfOk result (λ input. ⟦<MemSource<P> as Source>⟧.faults input ≡ 0) }
         ensures absent { result ≡ Err FindFault.Absent → file_at (files_of_list self.old.files.items) name.now ≡ None }
         ensures same { files_of_list self.new.files.items ≡ files_of_list self.old.files.items }
+        ensures lent { self.new.lent ≡ (if is_ok result then self.old.lent + 1 else self.old.lent) }
         ensures cause { HasCause (P.count self.old.failures + self.old.returned) (P.count self.new.failures + self.new.returned) (result ≡ Err FindFault.Device) }
         ensures kept { result ≢ Err FindFault.Device → P.count self.new.failures + self.new.returned ≡ P.count self.old.failures + self.old.returned }
     {
@@ -130,13 +139,14 @@ impl<P: Failures + Send> Files for MemFiles<P> {
         let Some(bytes) = newest(&self.files, name.as_slice()) else {
             return Err(FindFault::Absent);
         };
-        let Ok(bytes) = bytes.to_vec(alloc) else {
+        let (Some(lent), Ok(bytes)) = (self.lent.checked_add(1), bytes.to_vec(alloc)) else {
             return Err(FindFault::Memory);
         };
-        match self.inner.renewed(alloc) {
-            Ok(failures) => Ok(MemSource::new(bytes, failures)),
-            Err(_) => Err(FindFault::Memory),
-        }
+        let Ok(failures) = self.inner.renewed(alloc) else {
+            return Err(FindFault::Memory);
+        };
+        self.lent = lent;
+        Ok(MemSource::new(bytes, failures))
     }
 
     fn create(&mut self, alloc: Global, name: &Name) -> Result<MemSink<P>, MakeFault>
@@ -149,13 +159,14 @@ impl<P: Failures + Send> Files for MemFiles<P> {
         ensures fresh { IfOk result (λ output. ⟦<MemSink<P> as Sink>⟧.faults output ≡ 0) }
         ensures name { IfOk result (λ output. ⟦<MemSink<P> as Sink>⟧.name output ≡ Some name.now) }
         ensures same { files_of_list self.new.files.items ≡ files_of_list self.old.files.items }
+        ensures lent { self.new.lent ≡ (if is_ok result then self.old.lent + 1 else self.old.lent) }
         ensures cause { HasCause (P.count self.old.failures + self.old.returned) (P.count self.new.failures + self.new.returned) (result ≡ Err MakeFault.Device) }
         ensures kept { result ≢ Err MakeFault.Device → P.count self.new.failures + self.new.returned ≡ P.count self.old.failures + self.old.returned }
     {
         if self.failures.fails() {
             return Err(MakeFault::Device);
         }
-        let Some(out) = self.out.checked_add(1) else {
+        let (Some(out), Some(lent)) = (self.out.checked_add(1), self.lent.checked_add(1)) else {
             return Err(MakeFault::Memory);
         };
         let (Ok(()), Ok(name), Ok(failures)) = (
@@ -166,6 +177,7 @@ impl<P: Failures + Send> Files for MemFiles<P> {
             return Err(MakeFault::Memory);
         };
         self.out = out;
+        self.lent = lent;
         Ok(MemSink::new(alloc, Some(name), failures))
     }
 
@@ -178,6 +190,7 @@ impl<P: Failures + Send> Files for MemFiles<P> {
         ensures out { self.new.out ≡ self.old.out - 1 }
         ensures ok { OnOk result (IfSome (⟦<MemSink<P> as Sink>⟧.name output) (λ name. files_of_list self.new.files.items ≡ with_file (files_of_list self.old.files.items) name (⟦<MemSink<P> as Sink>⟧.held output))) }
         ensures err { OnErr result (files_of_list self.new.files.items ≡ files_of_list self.old.files.items) }
+        ensures lent { self.new.lent ≡ self.old.lent - 1 }
         ensures cause { HasCause (P.count self.old.failures + self.old.returned) (P.count self.new.failures + self.new.returned) (IsErr result) }
         ensures returned { HasCause (P.count self.old.failures + self.old.returned) (P.count self.new.failures + self.new.returned) (0 < ⟦<MemSink<P> as Sink>⟧.faults output) }
         ensures kept { OnOk result (⟦<MemSink<P> as Sink>⟧.faults output ≡ 0 → P.count self.new.failures + self.new.returned ≡ P.count self.old.failures + self.old.returned) }
@@ -203,6 +216,7 @@ impl<P: Failures + Send> Files for MemFiles<P> {
         ensures inner { self.new.inner ≡ self.old.inner }
         ensures out { self.new.out ≡ self.old.out - 1 }
         ensures same { files_of_list self.new.files.items ≡ files_of_list self.old.files.items }
+        ensures lent { self.new.lent ≡ self.old.lent - 1 }
         ensures returned { HasCause (P.count self.old.failures + self.old.returned) (P.count self.new.failures + self.new.returned) (0 < ⟦<MemSink<P> as Sink>⟧.faults output) }
         ensures kept { ⟦<MemSink<P> as Sink>⟧.faults output ≡ 0 → P.count self.new.failures + self.new.returned ≡ P.count self.old.failures + self.old.returned }
     {
@@ -215,6 +229,7 @@ impl<P: Failures + Send> Files for MemFiles<P> {
         ensures inner { self.new.inner ≡ self.old.inner }
         ensures out { self.new.out ≡ self.old.out }
         ensures same { files_of_list self.new.files.items ≡ files_of_list self.old.files.items }
+        ensures lent { self.new.lent ≡ self.old.lent - 1 }
         ensures returned { HasCause (P.count self.old.failures + self.old.returned) (P.count self.new.failures + self.new.returned) (0 < ⟦<MemSource<P> as Source>⟧.faults input) }
         ensures kept { ⟦<MemSource<P> as Source>⟧.faults input ≡ 0 → P.count self.new.failures + self.new.returned ≡ P.count self.old.failures + self.old.returned }
     {
