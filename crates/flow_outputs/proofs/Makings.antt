@@ -1,5 +1,5 @@
 -- Files that are made one after another.
-use Rattle.std.proofs.Common.{◌≡◌, ◌++◌, ◌∷◌, [], ◌∙◌, List, ℕ, Bool, true, false, ap, sym, subst, map, refl, append_assoc, arith}
+use Rattle.std.proofs.Common.{◌≡◌, ◌++◌, ◌∷◌, [], ◌∙◌, List, ℕ, Bool, true, false, ap, sym, subst, map, refl, append_assoc, arith, ◌-◌, length, length-append}
 use Rattle.std.proofs.lemmas.List.{map-append}
 use Rattle.ds_port.specs.Causes.{HasCause}
 use Rattle.ds_port.specs.FileMap.{FileMap, with_file}
@@ -35,3 +35,7 @@ makes_next file tells old mid new failed now xs x h s = subst (Makes tells old n
 pub cause_next : (a b c : ℕ) (failed now : Bool) → HasCause a b (failed ≡ true) → HasCause b c ((failed ≡ false) × (now ≡ true)) → HasCause a c (now ≡ true)
 cause_next a b c true now h k = record { later = grind (arith, h.later, k.later); rose = λ e. grind (arith, h.rose refl, k.later) }
 cause_next a b c false now h k = record { later = grind (arith, h.later, k.later); rose = λ e. grind (arith, h.later, k.rose (refl, e)) }
+
+-- one more came back
+pub returned_next : {X : Type 0} (old mid new : ℕ) (xs : List X) (x : X) → mid ≡ old - length xs → new ≡ mid - 1 → new ≡ old - length (xs ++ x ∷ [])
+returned_next old mid new xs x h k = omega (arith, h, k, length-append xs (x ∷ []))

@@ -1,4 +1,4 @@
-ghost use Rattle.std.specs.Prelude.{◌≡◌, ◌<◌, ◌≤◌, map, All, IsTrue, IsSome, IsErr, IfOk, OnOk, OnErr, true, false, ◌∷◌, []};
+ghost use Rattle.std.specs.Prelude.{◌≡◌, ◌<◌, ◌≤◌, ◌-◌, length, map, All, IsTrue, IsSome, IsErr, IfOk, OnOk, OnErr, true, false, ◌∷◌, []};
 ghost use Rattle.ds_port.specs.Causes.{HasCause};
 ghost use Rattle.flow_outputs.specs.Outputs.{with_files, file_from, MakesSome};
 
@@ -11,6 +11,7 @@ fn commit_next<F: Files>(files: &mut F, output: F::Output, failed: bool) -> bool
     ensures failed { failed ≡ true → result ≡ true }
     ensures stays { failed ≡ false → result ≡ true → F.holds files.new ≡ F.holds files.old }
     ensures made { IsTrue F.tells → failed ≡ false → result ≡ false → F.holds files.new ≡ with_files (F.holds files.old) (file_from (F.Output.name output) (F.Output.held output) ∷ []) }
+    ensures lent { F.lent files.new ≡ F.lent files.old - 1 }
     ensures cause { HasCause (F.faults files.old) (F.faults files.new) (failed ≡ false × result ≡ true) }
 {
     if failed {
@@ -26,6 +27,7 @@ pub fn commit_all<F: Files>(files: &mut F, outputs: Vec<F::Output>) -> Result<()
     requires { All (λ o. IsSome (F.Output.name o)) outputs.items }
     ensures ok { IsTrue F.tells → OnOk result (F.holds files.new ≡ with_files (F.holds files.old) (map (λ o. file_from (F.Output.name o) (F.Output.held o)) outputs.items)) }
     ensures err { IsTrue F.tells → OnErr result (MakesSome (F.holds files.old) (F.holds files.new) (map (λ o. file_from (F.Output.name o) (F.Output.held o)) outputs.items)) }
+    ensures lent { F.lent files.new ≡ F.lent files.old - length outputs.items }
     ensures cause { HasCause (F.faults files.old) (F.faults files.new) (IsErr result) }
 {
     let mut failed = false;
@@ -38,6 +40,7 @@ pub fn commit_all<F: Files>(files: &mut F, outputs: Vec<F::Output>) -> Result<()
 /// Lets all outputs go; none becomes a file.
 pub fn discard_all<F: Files>(files: &mut F, outputs: Vec<F::Output>)
     ensures same { F.holds files.new ≡ F.holds files.old }
+    ensures lent { F.lent files.new ≡ F.lent files.old - length outputs.items }
     ensures later { F.faults files.old ≤ F.faults files.new }
 {
     for output in outputs {

@@ -44,6 +44,23 @@ IsOfCommand answer.Faulty = Unit {0}
 IsOfCommand answer.Device = Unit {0}
 IsOfCommand answer.Memory = Unit {0}
 
+-- an answer where nothing is printed on out
+abbrev pub IsSilent : Answer → Type 0
+IsSilent answer.Usage = Unit {0}
+IsSilent answer.Unbuilt = Unit {0}
+IsSilent (answer.BadFlow at why) = Unit {0}
+IsSilent (answer.BadConfig at why) = Unit {0}
+IsSilent (answer.BadShape why op) = Unit {0}
+IsSilent (answer.Absent name) = Unit {0}
+IsSilent answer.Refused = ⊥
+IsSilent answer.Checked = ⊥
+IsSilent (answer.Mismatch link from to) = Unit {0}
+IsSilent (answer.Crowded players) = Unit {0}
+IsSilent answer.Done = ⊥
+IsSilent answer.Faulty = ⊥
+IsSilent answer.Device = ⊥
+IsSilent answer.Memory = Unit {0}
+
 -- a call stops with this answer, and has done nothing: a device failed, memory was wanting, or what it comes to leaves nothing
 abbrev pub Halts : (End → Type 0) → Answer → Type 0
 Halts Comes answer.Usage = Comes usage

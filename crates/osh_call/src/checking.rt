@@ -39,6 +39,7 @@ pub fn shape_at<F: Files>(alloc: Global, files: &mut F, name: &Name) -> Result<S
     ensures stops { IsTrue F.tells → IfErr result (ShapeFileStops (F.holds files.old) name.now) }
     ensures command { IfErr result IsOfCommand }
     ensures same { F.holds files.new ≡ F.holds files.old }
+    ensures lent { F.lent files.new ≡ F.lent files.old }
     ensures cause { HasCause (F.faults files.old) (F.faults files.new) (result ≡ Err Answer.Device) }
 {
     match flow_at(alloc, files, name) {

@@ -1,6 +1,6 @@
 //! The line of an answer on err, and its status.
 
-ghost use Rattle.std.specs.Prelude.{◌≡◌, ◌⊎◌, IsTrue, IfOk, IfErr};
+ghost use Rattle.std.specs.Prelude.{◌≡◌, ◌≤◌, ◌⊎◌, IsTrue, IfOk, IfErr};
 ghost use Rattle.osh_ends.specs.Leaves.{Tells};
 ghost use Rattle.osh_call.specs.Saying.{err_line, answer_status, HasLine, HasPlain, IsMade, SaidAs};
 
@@ -12,7 +12,8 @@ use osh_ends::{absent_line, config_line, flow_line, mismatch_line, players_line,
 use std::alloc::Global;
 
 fn tell<E: Sink>(err: &mut E, line: &[u8])
-    ensures { IsTrue E.tells → Tells line.now (E.faults err.old) (E.faults err.new) (E.held err.old) (E.held err.new) }
+    ensures line { IsTrue E.tells → Tells line.now (E.faults err.old) (E.faults err.new) (E.held err.old) (E.held err.new) }
+    ensures later { E.faults err.old ≤ E.faults err.new }
 {
     // A fault of err changes no answer.
     let _ = print(err, line);
@@ -55,6 +56,7 @@ fn plain_line(answer: &Answer) -> &'static [u8]
 pub fn say<E: Sink>(alloc: Global, err: &mut E, answer: Answer) -> Answer
     ensures said { SaidAs answer result }
     ensures line { IsTrue E.tells → Tells (err_line result) (E.faults err.old) (E.faults err.new) (E.held err.old) (E.held err.new) }
+    ensures later { E.faults err.old ≤ E.faults err.new }
 {
     match made_line(alloc, &answer) {
         Ok(Some(line)) => {

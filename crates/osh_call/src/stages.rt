@@ -53,6 +53,7 @@ pub fn flow_at<F: Files>(alloc: Global, files: &mut F, name: &Name) -> Result<Fl
     ensures stops { IsTrue F.tells → IfErr result (FileStops (F.holds files.old) name.now FlowInStops) }
     ensures command { IfErr result IsOfCommand }
     ensures same { F.holds files.new ≡ F.holds files.old }
+    ensures lent { F.lent files.new ≡ F.lent files.old }
     ensures cause { HasCause (F.faults files.old) (F.faults files.new) (result ≡ Err Answer.Device) }
 {
     match load(alloc, files, name, TEXT_LIMIT) {
@@ -84,6 +85,7 @@ pub fn nodes_at<F: Files>(alloc: Global, files: &mut F, name: &Name) -> Result<u
     ensures stops { IsTrue F.tells → IfErr result (FileStops (F.holds files.old) name.now NodesInStops) }
     ensures command { IfErr result IsOfCommand }
     ensures same { F.holds files.new ≡ F.holds files.old }
+    ensures lent { F.lent files.new ≡ F.lent files.old }
     ensures cause { HasCause (F.faults files.old) (F.faults files.new) (result ≡ Err Answer.Device) }
 {
     match load(alloc, files, name, TEXT_LIMIT) {

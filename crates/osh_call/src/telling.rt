@@ -1,11 +1,11 @@
 //! The command `check`.
 
-ghost use Rattle.std.specs.Prelude.{◌≡◌, ◌⊎◌, IfOk, IsTrue};
+ghost use Rattle.std.specs.Prelude.{◌≡◌, ◌≤◌, ◌⊎◌, IfOk, IsTrue};
 ghost use Rattle.ds_port.specs.Causes.{Rose};
 ghost use Rattle.flow_rules.specs.Verdicts.{IsVerdict};
 ghost use Rattle.osh_ends.specs.Ends.{ChecksFile};
 ghost use Rattle.osh_ends.specs.Reports.{verdict_report};
-ghost use Rattle.osh_call.specs.Answers.{IsOfCommand, Serves, Tells};
+ghost use Rattle.osh_call.specs.Answers.{IsOfCommand, IsSilent, Serves, Tells};
 
 use crate::answer::Answer;
 use crate::checking::{judged, shape_at};
@@ -39,6 +39,8 @@ pub fn tell<O: Sink>(alloc: Global, out: &mut O, shaped: &Shaped, verdict: &Verd
     requires { IsVerdict shaped.now verdict.now }
     ensures told { Tells shaped.now verdict.now O.tells (O.held out.old) (O.held out.new) (Rose (O.faults out.old) (O.faults out.new)) result }
     ensures command { IsOfCommand result }
+    ensures silent { IsSilent result → out.new ≡ out.old }
+    ensures later { O.faults out.old ≤ O.faults out.new }
 {
     let Ok(text) = verdict_report(alloc, shaped, verdict) else {
         return Answer::Memory;
@@ -57,6 +59,10 @@ pub fn check<F: Files, O: Sink>(alloc: Global, files: &mut F, out: &mut O, name:
     ensures serves { IsTrue F.tells → Serves (ChecksFile (F.holds files.old) name.now) (F.holds files.old) (F.holds files.new) O.tells (O.held out.old) (O.held out.new) (Rose (F.faults files.old) (F.faults files.new)) (Rose (O.faults out.old) (O.faults out.new)) result }
     ensures device { result ≡ Answer.Device → Rose (F.faults files.old) (F.faults files.new) ⊎ Rose (O.faults out.old) (O.faults out.new) }
     ensures command { IsOfCommand result }
+    ensures silent { IsSilent result → out.new ≡ out.old }
+    ensures lent { F.lent files.new ≡ F.lent files.old }
+    ensures files_later { F.faults files.old ≤ F.faults files.new }
+    ensures out_later { O.faults out.old ≤ O.faults out.new }
 {
     let shaped = match shape_at(alloc, files, name) {
         Ok(shaped) => shaped,

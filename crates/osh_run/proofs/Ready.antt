@@ -1,5 +1,5 @@
 -- What a run needs of its flow.
-use Rattle.std.proofs.Common.{◌≡◌, ◌<◌, ℕ, Bool, true, List, [], length, ap, sym, subst, ◌∙◌}
+use Rattle.std.proofs.Common.{◌≡◌, ◌<◌, ℕ, true, List, [], length, ap, sym, subst, ◌∙◌}
 use Rattle.flow_graph.specs.declared.flow.Flow.{Flow}
 use Rattle.flow_graph.specs.declared.route.Choice.{Choice}
 use Rattle.flow_graph.specs.declared.state.State.{State}

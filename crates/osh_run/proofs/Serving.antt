@@ -1,5 +1,5 @@
 -- How a call is served by a run of an accepted flow.
-use Rattle.std.proofs.Common.{◌≡◌, ◌≤◌, ◌⊎◌, inl, inr, refl, sym, subst, ℕ, Bool, List, None}
+use Rattle.std.proofs.Common.{◌≡◌, ◌≤◌, inl, inr, refl, sym, subst, ℕ, Bool, List, None}
 use Rattle.ds_port.specs.Causes.{Rose}
 use Rattle.ds_port.specs.FileMap.{FileMap}
 use Rattle.flow_graph.specs.declared.route.Choice.{Choice}
@@ -63,12 +63,12 @@ rose_before P old new tells out_old out_new before between now out_rose a h (inr
 -- a run of what was prepared, where nothing changed on the way
 pub accepted_serves : (old mid new : FileMap) (name config : List ℕ) (c : Chart) (nodes : ℕ) (v : Verdict) (tells : Bool) (out_old out_new : List ℕ) (before between now : ℕ) (out_rose : Type 0) (a : Answer)
     → mid ≡ old → before ≤ between → IsPrepared old name config c nodes → first_missing old c.flow.ops ≡ None → IsVerdict c v
-    → (first_missing mid c.flow.ops ≡ None → Serves (AcceptedRuns mid c nodes v) mid new tells out_old out_new (Rose between now) out_rose a)
+    → Serves (AcceptedRuns mid c nodes v) mid new tells out_old out_new (Rose between now) out_rose a
     → Serves (RunsFile old name config) old new tells out_old out_new (Rose before now) out_rose a
 accepted_serves old mid new name config c nodes v tells out_old out_new before between now out_rose a same later p there is s =
     serves_by (AcceptedRuns old c nodes v) (RunsFile old name config) old new tells out_old out_new (Rose before now) out_rose a (verdict_comes old name config c nodes v p there is)
     (rose_before (AcceptedRuns old c nodes v) old new tells out_old out_new before between now out_rose a later
-    (subst (λ m. first_missing m c.flow.ops ≡ None → Serves (AcceptedRuns m c nodes v) m new tells out_old out_new (Rose between now) out_rose a) same s there))
+    (subst (λ m. Serves (AcceptedRuns m c nodes v) m new tells out_old out_new (Rose between now) out_rose a) same s))
 
 -- a flow that was refused
 pub refused_serves : (old new : FileMap) (name config : List ℕ) (c : Chart) (nodes : ℕ) (v : Verdict) (link : ℕ) (need : Need) (have : State) (tells : Bool) (out_old out_new : List ℕ) (files_rose out_rose : Type 0) (a : Answer)

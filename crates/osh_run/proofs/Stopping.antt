@@ -1,8 +1,9 @@
 -- How a run goes on from stage to stage, and how a stage stops it.
-use Rattle.std.proofs.Common.{◌≡◌, inl, inr, ℕ, List, [], refl, Some, None}
+use Rattle.std.proofs.Common.{◌≡◌, inl, inr, ℕ, List, refl, subst, Option, Some, None}
 use Rattle.ds_port.specs.FileMap.{FileMap, file_at}
 use Rattle.flow_graph.specs.Charts.{Chart}
 use Rattle.flow_graph.specs.declared.flow.Flow.{Flow}
+use Rattle.flow_graph.specs.declared.flow.OpSpec.{OpSpec}
 use Rattle.flow_rules.specs.declared.verdict.Verdict.{Verdict}
 use Rattle.flow_rules.specs.Verdicts.{IsVerdict}
 use Rattle.osh_call.specs.declared.answer.Answer.{Answer}
@@ -14,6 +15,7 @@ use Rattle.osh_ends.specs.Ends.{End, absent, AcceptedRuns, Finds, NodesIn, RunsF
 use Rattle.osh_ends.specs.FlowFiles.{first_missing}
 use Rattle.osh_ends.specs.Steps.{Reads}
 use Rattle.osh_run.specs.Stages.{AreTexts, IsPrepared}
+use Rattle.run_feed.specs.Inputs.{AreInputs}
 
 -- what stands behind the shape, the configuration and the flow
 abbrev RunsShape : FileMap → ℕ → Chart → End → Type 0
@@ -48,3 +50,7 @@ missing_stops files name config c nodes missing p h = prepared_comes files name 
 
 pub verdict_comes : (files : FileMap) (name config : List ℕ) (c : Chart) (nodes : ℕ) (v : Verdict) → IsPrepared files name config c nodes → first_missing files c.flow.ops ≡ None → IsVerdict c v → (end : End) → AcceptedRuns files c nodes v end → RunsFile files name config end
 verdict_comes files name config c nodes v p there is end e = prepared_comes files name config c nodes p end (inr (there, (v, is, e)))
+
+-- inputs that were found where nothing changed on the way
+pub inputs_from : {I : Type 0} (tells : Type 0) (rest : I → List ℕ) (old mid : FileMap) (listed ops : List OpSpec) (inputs : List (Option I)) → mid ≡ old → listed ≡ ops → AreInputs tells rest mid listed inputs → AreInputs tells rest old ops inputs
+inputs_from tells rest old mid listed ops inputs same is are = subst (λ m. AreInputs tells rest m ops inputs) same (subst (λ os. AreInputs tells rest mid os inputs) is are)

@@ -1,4 +1,4 @@
-pub mod Absent
+pub mod Settling
 pub mod Forms
 pub mod Rows
 pub mod Ports

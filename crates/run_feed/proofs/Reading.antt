@@ -1,6 +1,9 @@
 -- Operators whose files are read one after another.
-use Rattle.std.proofs.Common.{◌≡◌, ◌+◌, ◌<◌, ◌==◌, ℕ, zero, suc, Bool, true, false, cond, List, [], ◌∷◌, ◌++◌, flat_map, get_or, length, inl, inr, append_assoc, refl, sym, ap, ap₂, ◌∙◌, subst, arith}
+use Rattle.std.proofs.Common.{◌≡◌, ◌+◌, ◌<◌, ◌==◌, ℕ, suc, Bool, true, false, cond, List, [], ◌∷◌, ◌++◌, flat_map, get_or, length, inl, inr, append_assoc, refl, sym, ap, ap₂, ◌∙◌, subst, arith}
 use Rattle.std.specs.List.{range_with_len}
+use Rattle.std.specs.Prelude.{Option, Some, None, Result, Ok, Err, IfOk}
+use Rattle.ds_schema.specs.declared.schema.Field.{Field}
+use Rattle.ds_text.specs.declared.form.Form.{Form}
 use Rattle.std.proofs.lemmas.Bool.{eqb-true}
 use Rattle.std.proofs.lemmas.Bool.Decides.{nat_tests}
 use Rattle.std.proofs.lemmas.List.{append-nil, get_or_append_left}
@@ -11,14 +14,13 @@ use Rattle.op_base.specs.Keyed.{get_keys}
 use Rattle.op_base.specs.RowOperators.{copy_rule, sink_rule}
 use Rattle.flow_files.specs.declared.tally.Tally.{Tally}
 use Rattle.op_join.specs.declared.kind.JoinKind.TheVariants.{Inner, Left, Right, Full}
-use Rattle.flow_files.specs.Lines.{beyond}
+use Rattle.flow_files.specs.Lines.{Imports, beyond}
 use Rattle.flow_files.specs.Tallies.{Grows}
 use Rattle.flow_files.specs.Texts.{export_faults}
 use Rattle.flow_files.proofs.Growing.{further, same}
-use Rattle.flow_graph.specs.declared.flow.OpSpec.{OpSpec}
 use Rattle.flow_graph.specs.declared.op_kind.OpKind.{OpKind}
 use Rattle.flow_graph.specs.declared.op_kind.OpKind.TheVariants as kind
-use Rattle.flow_graph.specs.Charts.{Chart, keys_at, no_op, op_at, parts_of}
+use Rattle.flow_graph.specs.Charts.{Chart, keys_at, op_at, parts_of}
 use Rattle.flow_graph.specs.Operators.{Op, by_row, faults, group, import, remdup, tsort}
 use Rattle.flow_graph.specs.RowRules.{row_rule}
 use Rattle.flow_ops.specs.Keyed.{group_of}
@@ -29,12 +31,24 @@ use Rattle.osh_ends.specs.Built.{is_built_op}
 use Rattle.flow_rules.specs.Exports.{input_of}
 use Rattle.osh_ends.specs.FlowFiles.{IsOp, fields_of, form}
 use Rattle.flow_ops.specs.Kinds.{joined_by, looked_by, widths_into}
+use Rattle.run_feed.specs.Inputs.{IsInput}
 use Rattle.run_feed.specs.Sources.{AllSuit, ReadTo, ReadsFile, RowsSuit, rows_read}
 
-pub at_item : (ops : List OpSpec) (i : ℕ) (x : OpSpec) → i < length ops → x ≡ get_or ops i x → x ≡ get_or ops i no_op
-at_item [] i x h e = absurd (omega arith)
-at_item (op ∷ ops) zero x h e = e
-at_item (op ∷ ops) (suc i) x h e = at_item ops i x (omega arith) e
+reads_import : {I M E : Type 0} (tells : Type 0) (rest : I → List ℕ) (rows rejected : M → List Row) (files : FileMap) (o : ℕ) (file : List ℕ) (schema : List Field) (delim : ℕ) (fixed : Option (List ℕ)) (reject : Bool) (input : Option I) (made : Result M E) (old new : Tally)
+    → tells → IsInput tells rest files (kind.Import file schema delim fixed reject) input → ((source : I) → input ≡ Some source → IfOk made (λ m. Imports (form delim fixed) schema o reject (rest source) (rows m) (rejected m) old new))
+    → IfOk made (λ m. ReadsFile files o (kind.Import file schema delim fixed reject) (rows m) (rejected m) old new)
+reads_import tells rest rows rejected files o file schema delim fixed reject (Some source) (Ok m) old new told is h = (rest source, is told, h source refl)
+reads_import tells rest rows rejected files o file schema delim fixed reject (Some source) (Err e) old new told is h = tt
+reads_import tells rest rows rejected files o file schema delim fixed reject None made old new told is h = absurd is
+
+-- an import has the rows of its file
+pub reads_file : {I M E : Type 0} (tells : Type 0) (rest : I → List ℕ) (rows rejected : M → List Row) (files : FileMap) (o : ℕ) (k : OpKind) (file : List ℕ) (schema : List Field) (delim : ℕ) (fixed : Option (List ℕ)) (reject : Bool) (f : Form) (input : Option I) (made : Result M E) (old new : Tally)
+    → k ≡ kind.Import file schema delim fixed reject → f ≡ form delim fixed → tells → ((source : I) → input ≡ Some source → IfOk made (λ m. Imports f schema o reject (rest source) (rows m) (rejected m) old new))
+    → IsInput tells rest files k input → IfOk made (λ m. ReadsFile files o k (rows m) (rejected m) old new)
+reads_file tells rest rows rejected files o k file schema delim fixed reject f input made old new e formed told h =
+    subst (λ l. IsInput tells rest files l input → IfOk made (λ m. ReadsFile files o l (rows m) (rejected m) old new)) (sym e)
+    (λ is. reads_import tells rest rows rejected files o file schema delim fixed reject input made old new told is
+    (λ source some. subst (λ x. IfOk made (λ m. Imports x schema o reject (rest source) (rows m) (rejected m) old new)) formed (h source some)))
 
 -- an operator whose file was read
 abbrev IsRead : FileMap → Chart → ℕ → OpKind → List Row → List Row → Tally → Tally → Type 0

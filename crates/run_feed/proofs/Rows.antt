@@ -1,6 +1,7 @@
 -- Rows that fit.
 use Rattle.std.proofs.Common.{◌≡◌, ◌≤◌, ℕ, true, List, [], ◌∷◌, All, length, take, refl, sym, ap, ◌∙◌, subst, arith}
 use Rattle.std.specs.List.{AllByRecursion}
+use Rattle.std.specs.Prelude.{Result, Ok, Err, IfOk}
 use Rattle.std.proofs.lemmas.Bool.{le-leb}
 use Rattle.std.proofs.lemmas.List.{length-take}
 use Rattle.std.proofs.lemmas.List.Elements.{All-from_recursion}
@@ -30,3 +31,11 @@ lines_suit (r ∷ rows) h = ((ap (row_fits line_fields) h.0.1 ∙ line_fits h.0.
 pub rows_suit : (fields : List Field) (rows : List Row) → AllByRecursion IsField fields → AllFit fields rows → AllByRecursion (FitsFields fields) rows
 rows_suit fields [] f h = tt
 rows_suit fields (r ∷ rows) f h = ((h.0, row_is_short fields r f h.0), rows_suit fields rows f h.1)
+
+pub made_suit : {M E : Type 0} (rows : M → List Row) (fields : List Field) (made : Result M E) → AllByRecursion IsField fields → IfOk made (λ m. AllFit fields (rows m)) → IfOk made (λ m. AllByRecursion (FitsFields fields) (rows m))
+made_suit rows fields (Ok m) f h = rows_suit fields (rows m) f h
+made_suit rows fields (Err e) f h = tt
+
+pub made_of_lines : {M E : Type 0} (rows : M → List Row) (made : Result M E) → IfOk made (λ m. AreOfLines (rows m)) → IfOk made (λ m. AllByRecursion (FitsFields line_fields) (rows m))
+made_of_lines rows (Ok m) h = lines_suit (rows m) h
+made_of_lines rows (Err e) h = tt

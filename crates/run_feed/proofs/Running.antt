@@ -1,5 +1,5 @@
 -- What a run over the rows of imports has.
-use Rattle.std.proofs.Common.{◌≡◌, ◌-◌, ◌^◌, ◌++◌, ℕ, min, List, [], flat_map, get_or, length, None, sym, ap, ◌∙◌, subst, IsPermutation}
+use Rattle.std.proofs.Common.{◌≡◌, ◌-◌, ◌^◌, ◌++◌, ℕ, min, List, [], flat_map, get_or, length, None, sym, ap, ◌∙◌, subst}
 use Rattle.std.specs.List.{AllByRecursion}
 use Rattle.std.proofs.lemmas.List.Sorted.{IsPermutation-append_right}
 use Rattle.op_base.specs.declared.fault.Fault.{Fault}
@@ -9,7 +9,6 @@ use Rattle.ds_port.specs.FileMap.{FileMap}
 use Rattle.flow_files.specs.declared.tally.Tally.{Tally}
 use Rattle.flow_files.specs.Tallies.{Grows}
 use Rattle.flow_files.proofs.Growing.{further}
-use Rattle.flow_graph.specs.declared.op_kind.OpKind.TheVariants as kind
 use Rattle.flow_graph.specs.declared.route.Choice.{Choice}
 use Rattle.flow_graph.specs.declared.state.State.{State}
 use Rattle.flow_graph.specs.Charts.{Chart, all_links}

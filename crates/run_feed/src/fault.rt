@@ -1,39 +1,10 @@
-use ds_value::{Name, NoMemory};
+use ds_value::Name;
 
-/// Why it isn't known which files are there.
-#[derive(Clone, Copy, Debug, PartialEq, Eq)]
-pub enum ProbeFault {
-    Device,
-    Memory,
-}
-
-/// Why a run came to no lists.
+/// Why not all inputs of a flow were found.
 #[derive(Debug, Drop)]
-pub enum FeedFault {
+pub enum InputFault {
+    /// The first file that isn't there.
+    Absent(Name),
     Device,
     Memory,
-    /// A file that was there before isn't there any more.
-    Absent(Name),
-}
-
-impl From<NoMemory> for ProbeFault {
-    ghost use Rattle.std.specs.Prelude.{◌≡◌};
-    ghost use Rattle.run_feed.specs.declared.fault.ProbeFault.TheVariants as fault;
-
-    ghost from_gives = { λ _ made. made ≡ fault.Memory };
-
-    fn from(_: NoMemory) -> Self {
-        ProbeFault::Memory
-    }
-}
-
-impl From<NoMemory> for FeedFault {
-    ghost use Rattle.std.specs.Prelude.{◌≡◌};
-    ghost use Rattle.run_feed.specs.declared.fault.FeedFault.TheVariants as fault;
-
-    ghost from_gives = { λ _ made. made ≡ fault.Memory };
-
-    fn from(_: NoMemory) -> Self {
-        FeedFault::Memory
-    }
 }

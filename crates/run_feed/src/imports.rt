@@ -1,74 +1,67 @@
 //! The rows of the files that imports read.
 
-ghost use Rattle.std.specs.Prelude.{◌≡◌, ◌<◌, ℕ, List, true, false, [], length, IsTrue, IfOk, Err, None};
+ghost use Rattle.std.specs.Prelude.{◌≡◌, ◌-◌, ◌<◌, ℕ, false, [], length, IsTrue, IfOk, Err, Some, true};
 ghost use Rattle.ds_port.specs.Causes.{HasCause};
-ghost use Rattle.ds_port.specs.FileMap.{file_at};
+ghost use Rattle.ds_port.specs.FileMap.{FileMap};
 ghost use Rattle.ds_text.specs.Forms.{FormFits};
 ghost use Rattle.flow_files.specs.Lines.{Imports};
 ghost use Rattle.flow_graph.specs.Charts.{op_at};
 ghost use Rattle.flow_graph.specs.Fitting.{FitsFields};
 ghost use Rattle.osh_ends.specs.Built.{is_built, is_built_op};
-ghost use Rattle.osh_ends.specs.FlowFiles.{first_missing, missing_of, form};
+ghost use Rattle.osh_ends.specs.FlowFiles.{form};
 ghost use Rattle.op_shape.specs.Options.{line_fields};
 ghost use Rattle.flow_shape.specs.Refusals.{IsShapeOf};
 ghost use Rattle.osh_sound.specs.Sound.{KeepsForms};
+ghost use Rattle.run_feed.specs.Inputs.{AreInputs, IsInput, all_faults, faults_of, number_of, one_if_some};
 ghost use Rattle.run_feed.specs.Sources.{AllSuit, CanFeed, CanRead, ReadTo, ReadsFile, RowsSuit, Sourced};
 ghost use Rattle.std.specs.List.{AllByRecursion};
 
-use crate::fault::FeedFault;
+use crate::inputs::{Inputs, settle_inputs};
 use crate::links::{Reads, by_link};
-use ds_port::{Files, FindFault};
+use ds_port::{Files, Source};
 use ds_schema::{Row, Schema};
 use ds_text::Form;
-use ds_value::{Copied, Items, Name, NoMemory};
+use ds_value::{Copied, Items, NoMemory};
 use flow_files::{FileFault, Imported, Tally, import_rows};
 use flow_graph::{OpKind, Shaped};
 use std::alloc::Global;
 
-/// The answer that a file isn't there.
-fn absent(name: &Name) -> FeedFault
-    ensures { result ≡ FeedFault.Device → ⊥ }
+/// What is had of no file.
+fn no_rows(alloc: Global) -> Imported
+    ensures rows { result.rows ≡ [] }
+    ensures rejected { result.rejected ≡ [] }
 {
-    match name.copied() {
-        Ok(name) => FeedFault::Absent(name),
-        Err(_) => FeedFault::Memory,
+    Imported {
+        rows: Items::new(alloc),
+        rejected: Items::new(alloc),
     }
 }
 
-/// What an import has of its file.
-fn import_file<F: Files>(
+/// What an import has of its file, which stays where it is.
+fn import_file<S: Source + Drop>(
     alloc: Global,
-    files: &mut F,
     op: u32,
     rejects: bool,
-    name: &Name,
     schema: &Schema,
     form: &Form,
+    input: &mut Option<S>,
     tally: &mut Tally,
-) -> Result<Imported, FeedFault>
+) -> Result<Imported, FileFault>
     requires { FormFits schema.now form.now }
-    ensures told { IsTrue F.tells → IfOk result (λ made. (bytes : List ℕ) × (file_at (F.holds files.old) name.now ≡ Some bytes) × Imports form.now schema.now op rejects bytes made.rows made.rejected tally.old tally.new) }
+    ensures told { IsTrue S.tells → (source : S) → input.old ≡ Some source → IfOk result (λ made. Imports form.now schema.now op rejects (S.rest source) made.rows made.rejected tally.old tally.new) }
     ensures fit { IfOk result (λ made. AllByRecursion (FitsFields schema.now) made.rows) }
     ensures lines { IfOk result (λ made. AllByRecursion (FitsFields line_fields) made.rejected) }
     ensures none { IfOk result (λ made. rejects ≡ false → made.rejected ≡ []) }
-    ensures absent { IsTrue F.tells → (gone : List ℕ) → result ≡ Err (FeedFault.Absent gone) → file_at (F.holds files.old) name.now ≡ None }
-    ensures same { F.holds files.new ≡ F.holds files.old }
-    ensures cause { HasCause (F.faults files.old) (F.faults files.new) (result ≡ Err FeedFault.Device) }
+    ensures kept { one_if_some input.new ≡ one_if_some input.old }
+    ensures cause { result ≡ Err FileFault.Device → 0 < faults_of S.faults input.new }
 {
     let _fields = schema.as_slice();
-    let input = match files.find(alloc, name) {
-        Ok(input) => input,
-        Err(FindFault::Absent) => return Err(absent(name)),
-        Err(FindFault::Device) => return Err(FeedFault::Device),
-        Err(FindFault::Memory) => return Err(FeedFault::Memory),
+    let Some(source) = input.take() else {
+        return Ok(no_rows(alloc));
     };
-    let (input, made) = import_rows(alloc, op, rejects, schema, form, input, tally);
-    files.settle(input);
-    match made {
-        Ok(made) => Ok(made),
-        Err(FileFault::Device) => Err(FeedFault::Device),
-        Err(FileFault::Memory) => Err(FeedFault::Memory),
-    }
+    let (source, made) = import_rows(alloc, op, rejects, schema, form, source, tally);
+    *input = Some(source);
+    made
 }
 
 /// Fields with a delimiter between them, or of fixed widths.
@@ -82,85 +75,107 @@ fn form(delim: u8, fixed: &Option<Items<u32>>) -> Result<Form, NoMemory>
 }
 
 /// What an operator reads: rows of its file, where it imports.
-fn read_operator<F: Files>(
+fn read_operator<S: Source + Drop>(
     alloc: Global,
-    files: &mut F,
     op: u32,
     kind: &OpKind,
+    input: &mut Option<S>,
     tally: &mut Tally,
-) -> Result<Imported, FeedFault>
+) -> Result<Imported, FileFault>
     requires { CanRead kind.now }
-    ensures told { IsTrue F.tells → IfOk result (λ made. ReadsFile (F.holds files.old) op kind.now made.rows made.rejected tally.old tally.new) }
+    ensures told { IsTrue S.tells → (files : FileMap) → IsInput (IsTrue S.tells) S.rest files kind.now input.old → IfOk result (λ made. ReadsFile files op kind.now made.rows made.rejected tally.old tally.new) }
     ensures fit { IfOk result (λ made. RowsSuit kind.now made.rows made.rejected) }
-    ensures absent { IsTrue F.tells → missing_of (F.holds files.old) kind.now ≡ None → (gone : List ℕ) → result ≡ Err (FeedFault.Absent gone) → ⊥ }
-    ensures same { F.holds files.new ≡ F.holds files.old }
-    ensures cause { HasCause (F.faults files.old) (F.faults files.new) (result ≡ Err FeedFault.Device) }
+    ensures kept { one_if_some input.new ≡ one_if_some input.old }
+    ensures cause { result ≡ Err FileFault.Device → 0 < faults_of S.faults input.new }
 {
     match kind {
         OpKind::Import {
-            file,
             schema,
             delim,
             fixed,
             reject,
+            ..
         } => {
             let form = form(*delim, fixed)?;
-            import_file(alloc, files, op, *reject, file, schema, &form, tally)
+            import_file(alloc, op, *reject, schema, &form, input, tally)
         }
-        _ => Ok(Imported {
-            rows: Items::new(alloc),
-            rejected: Items::new(alloc),
-        }),
+        _ => Ok(no_rows(alloc)),
     }
 }
 
 /// What each operator reads, by its number.
-fn read_all<F: Files>(
+fn read_all<S: Source + Drop>(
     alloc: Global,
-    files: &mut F,
     shaped: &Shaped,
+    inputs: &mut Inputs<S>,
     tally: &mut Tally,
-) -> Result<Reads, FeedFault>
+) -> Result<Reads, FileFault>
     requires built { (o : ℕ) → o < length shaped.now.flow.ops → is_built_op (op_at shaped.now o).kind ≡ true }
     requires forms { (o : ℕ) → o < length shaped.now.flow.ops → CanRead (op_at shaped.now o).kind }
-    ensures told { IsTrue F.tells → IfOk result (λ reads. ReadTo (F.holds files.old) shaped.now (length shaped.now.flow.ops) reads.rows reads.rejected tally.old tally.new) }
+    requires count { length inputs.old.by_operator.items ≡ length shaped.now.flow.ops }
+    ensures told { IsTrue S.tells → (files : FileMap) → AreInputs (IsTrue S.tells) S.rest files shaped.now.flow.ops inputs.old.by_operator.items → IfOk result (λ reads. ReadTo files shaped.now (length shaped.now.flow.ops) reads.rows reads.rejected tally.old tally.new) }
     ensures fit { IfOk result (λ reads. AllSuit shaped.now (length shaped.now.flow.ops) reads.rows reads.rejected) }
-    ensures absent { IsTrue F.tells → first_missing (F.holds files.old) shaped.now.flow.ops ≡ None → (gone : List ℕ) → result ≡ Err (FeedFault.Absent gone) → ⊥ }
-    ensures same { F.holds files.new ≡ F.holds files.old }
-    ensures cause { HasCause (F.faults files.old) (F.faults files.new) (result ≡ Err FeedFault.Device) }
+    ensures kept { number_of inputs.new.by_operator.items ≡ number_of inputs.old.by_operator.items }
+    ensures cause { result ≡ Err FileFault.Device → 0 < all_faults S.faults inputs.new.by_operator.items }
 {
     shaped.is_shaped();
     let mut rows = Items::new(alloc);
     let mut rejected = Items::new(alloc);
     for (op, spec) in shaped.flow().ops.as_slice().iter().enumerate() {
-        let read = read_operator(alloc, files, op as u32, &spec.kind, tally)?;
+        let input = &mut inputs.by_operator[op];
+        let read = read_operator(alloc, op as u32, &spec.kind, input, tally)?;
         rows.push(read.rows)?;
         rejected.push(read.rejected)?;
     }
     Ok(Reads { rows, rejected })
 }
 
-/// The rows that imports put on their links, by link. After an error the tally is of no use.
+/// The rows that imports put on their links, by link. All inputs stay where they are.
 #[tactic(auto, using(crate::proofs::Ready::built_at, crate::proofs::Forms::can_read))]
-pub fn import_all<F: Files>(
+fn rows_by_link<S: Source + Drop>(
     alloc: Global,
-    files: &mut F,
     shaped: &Shaped,
+    inputs: &mut Inputs<S>,
     tally: &mut Tally,
-) -> Result<Items<Items<Row>>, FeedFault>
+) -> Result<Items<Items<Row>>, FileFault>
     requires shape { IsShapeOf shaped.now.flow [] shaped.now }
     requires built { is_built shaped.now.flow ≡ true }
     requires forms { KeepsForms shaped.now.flow }
-    ensures told { IsTrue F.tells → IfOk result (λ sources. Sourced (F.holds files.old) shaped.now sources tally.old tally.new) }
+    requires count { length inputs.old.by_operator.items ≡ length shaped.now.flow.ops }
+    ensures told { IsTrue S.tells → (files : FileMap) → AreInputs (IsTrue S.tells) S.rest files shaped.now.flow.ops inputs.old.by_operator.items → IfOk result (λ sources. Sourced files shaped.now sources tally.old tally.new) }
     ensures feeds { IfOk result (λ sources. CanFeed shaped.now sources) }
-    ensures absent { IsTrue F.tells → first_missing (F.holds files.old) shaped.now.flow.ops ≡ None → (gone : List ℕ) → result ≡ Err (FeedFault.Absent gone) → ⊥ }
-    ensures same { F.holds files.new ≡ F.holds files.old }
-    ensures cause { HasCause (F.faults files.old) (F.faults files.new) (result ≡ Err FeedFault.Device) }
+    ensures kept { number_of inputs.new.by_operator.items ≡ number_of inputs.old.by_operator.items }
+    ensures cause { result ≡ Err FileFault.Device → 0 < all_faults S.faults inputs.new.by_operator.items }
 {
     shaped.is_shaped();
-    let reads = read_all(alloc, files, shaped, tally)?;
+    let reads = read_all(alloc, shaped, inputs, tally)?;
     match by_link(alloc, shaped, reads) {
         Ok(sources) => Ok(sources),
-        Err(_) => Err(FeedFault::Memory),
+        Err(_) => Err(FileFault::Memory),
     }
+}
+
+/// The rows that imports put on their links, by link. All inputs are handed back. After an error
+/// the tally is of no use.
+pub(crate) fn import_all<F: Files>(
+    alloc: Global,
+    files: &mut F,
+    shaped: &Shaped,
+    inputs: Inputs<F::Input>,
+    tally: &mut Tally,
+) -> Result<Items<Items<Row>>, FileFault>
+    requires shape { IsShapeOf shaped.now.flow [] shaped.now }
+    requires built { is_built shaped.now.flow ≡ true }
+    requires forms { KeepsForms shaped.now.flow }
+    requires inputs { AreInputs (IsTrue F.tells) F.Input.rest (F.holds files.old) shaped.now.flow.ops inputs.by_operator.items }
+    ensures told { IsTrue F.tells → IfOk result (λ sources. Sourced (F.holds files.old) shaped.now sources tally.old tally.new) }
+    ensures feeds { IfOk result (λ sources. CanFeed shaped.now sources) }
+    ensures same { F.holds files.new ≡ F.holds files.old }
+    ensures lent { F.lent files.new ≡ F.lent files.old - number_of inputs.by_operator.items }
+    ensures cause { HasCause (F.faults files.old) (F.faults files.new) (result ≡ Err FileFault.Device) }
+{
+    let mut inputs = inputs;
+    let sources = rows_by_link(alloc, shaped, &mut inputs, tally);
+    settle_inputs(files, inputs);
+    sources
 }

@@ -4,11 +4,12 @@
 
 mod fault;
 mod feeding;
+mod finding;
 mod imports;
+mod inputs;
 mod links;
-mod missing;
 
-pub use fault::{FeedFault, ProbeFault};
+pub use fault::InputFault;
 pub use feeding::feed;
-pub use imports::import_all;
-pub use missing::probe;
+pub use finding::find_inputs;
+pub use inputs::{Inputs, settle_inputs};

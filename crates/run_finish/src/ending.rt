@@ -1,6 +1,6 @@
 //! What is left of a run: files and a report, or a report of faults.
 
-ghost use Rattle.std.specs.Prelude.{◌≡◌, ◌≤◌, ◌⊎◌, ℕ, List, All, IsTrue, IsSome, length, map};
+ghost use Rattle.std.specs.Prelude.{◌≡◌, ◌≤◌, ◌-◌, ◌⊎◌, ℕ, List, All, IsTrue, IsSome, length, map};
 ghost use Rattle.ds_port.specs.Causes.{HasCause, Rose};
 ghost use Rattle.flow_graph.specs.declared.state.State.{State};
 ghost use Rattle.flow_outputs.specs.Outputs.{file_from};
@@ -30,7 +30,7 @@ pub enum Ending {
     Memory,
 }
 
-/// Makes the outputs files, and prints a text.
+/// Makes the outputs files, and prints a text. All outputs are taken, however it ends.
 fn make_files<F: Files, O: Sink>(
     files: &mut F,
     out: &mut O,
@@ -40,6 +40,7 @@ fn make_files<F: Files, O: Sink>(
     requires { All (λ o. IsSome (F.Output.name o)) outputs.items }
     ensures delivers { IsTrue F.tells → Delivers (F.holds files.old) (F.holds files.new) (map (λ o. file_from (F.Output.name o) (F.Output.held o)) outputs.items) O.tells (O.held out.old) (O.held out.new) text.now (Rose (F.faults files.old) (F.faults files.new)) (Rose (O.faults out.old) (O.faults out.new)) result }
     ensures answer { (result ≡ Ending.Done) ⊎ (result ≡ Ending.Device) }
+    ensures lent { F.lent files.new ≡ F.lent files.old - length outputs.items }
     ensures cause { result ≡ Ending.Device → Rose (F.faults files.old) (F.faults files.new) ⊎ Rose (O.faults out.old) (O.faults out.new) }
     ensures files_later { F.faults files.old ≤ F.faults files.new }
     ensures out_later { O.faults out.old ≤ O.faults out.new }
@@ -54,7 +55,7 @@ fn make_files<F: Files, O: Sink>(
 }
 
 /// Makes the outputs files, and prints the report of the run. The report is made before the first
-/// of the files.
+/// of the files. All outputs are taken, however it ends.
 pub fn deliver<F: Files, O: Sink>(
     alloc: Global,
     files: &mut F,
@@ -73,6 +74,8 @@ pub fn deliver<F: Files, O: Sink>(
     requires named { All (λ o. IsSome (F.Output.name o)) outputs.items }
     ensures delivers { IsTrue F.tells → (states : List State) (whole : ℕ → List Row) → verdict.now ≡ Accepted states choices.now → AreCounts shaped.now whole counts.now → Delivers (F.holds files.old) (F.holds files.new) (map (λ o. file_from (F.Output.name o) (F.Output.held o)) outputs.items) O.tells (O.held out.old) (O.held out.new) (report shaped.now states choices.now nodes whole) (Rose (F.faults files.old) (F.faults files.new)) (Rose (O.faults out.old) (O.faults out.new)) result }
     ensures answer { (result ≡ Ending.Done) ⊎ ((result ≡ Ending.Device) ⊎ (result ≡ Ending.Memory)) }
+    ensures silent { result ≡ Ending.Memory → out.new ≡ out.old }
+    ensures lent { F.lent files.new ≡ F.lent files.old - length outputs.items }
     ensures cause { result ≡ Ending.Device → Rose (F.faults files.old) (F.faults files.new) ⊎ Rose (O.faults out.old) (O.faults out.new) }
     ensures files_later { F.faults files.old ≤ F.faults files.new }
     ensures out_later { O.faults out.old ≤ O.faults out.new }
@@ -84,7 +87,7 @@ pub fn deliver<F: Files, O: Sink>(
     make_files(files, out, outputs, text.as_slice())
 }
 
-/// Makes no file, and prints the report of the faults.
+/// Makes no file, and prints the report of the faults. All outputs are taken.
 pub fn refuse<F: Files, O: Sink>(
     alloc: Global,
     files: &mut F,
@@ -103,6 +106,8 @@ pub fn refuse<F: Files, O: Sink>(
     requires seats { Seats shaped.now choices.now nodes players }
     ensures refuses { (states : List State) → verdict.now ≡ Accepted states choices.now → Refuses (F.holds files.old) (F.holds files.new) O.tells (O.held out.old) (O.held out.new) (fault_report shaped.now states choices.now nodes faults least.now) (Rose (O.faults out.old) (O.faults out.new)) result }
     ensures answer { (result ≡ Ending.Faulty) ⊎ ((result ≡ Ending.Device) ⊎ (result ≡ Ending.Memory)) }
+    ensures silent { result ≡ Ending.Memory → out.new ≡ out.old }
+    ensures lent { F.lent files.new ≡ F.lent files.old - length outputs.items }
     ensures cause { result ≡ Ending.Device → Rose (O.faults out.old) (O.faults out.new) }
     ensures files_later { F.faults files.old ≤ F.faults files.new }
     ensures out_later { O.faults out.old ≤ O.faults out.new }

@@ -20,7 +20,7 @@ use std::alloc::Global;
 
 /// Writes what came at the exports. Where no operator had a fault the outputs become files and the
 /// numbers of rows are reported; else no file is made, and the faults are reported. `tally` has the
-/// faults of the imports and of the operators between imports and exports.
+/// faults of the imports and of the operators between imports and exports. No output is left out.
 pub fn finish_run<F: Files, O: Sink>(
     alloc: Global,
     files: &mut F,
@@ -38,6 +38,8 @@ pub fn finish_run<F: Files, O: Sink>(
     requires seats { Seats shaped.now choices.now nodes players }
     requires can { CanWriteAll shaped.now ran.now.sinks }
     ensures ends { IsTrue F.tells → (states : List State) → verdict.now ≡ Accepted states choices.now → IsRun (F.holds files.old) shaped.now states choices.now ran.now tally → Ends (F.holds files.old) (F.holds files.new) shaped.now nodes states choices.now O.tells (O.held out.old) (O.held out.new) (Rose (F.faults files.old) (F.faults files.new)) (Rose (O.faults out.old) (O.faults out.new)) result }
+    ensures silent { result ≡ Ending.Memory → out.new ≡ out.old }
+    ensures lent { F.lent files.new ≡ F.lent files.old }
     ensures cause { result ≡ Ending.Device → Rose (F.faults files.old) (F.faults files.new) ⊎ Rose (O.faults out.old) (O.faults out.new) }
     ensures files_later { F.faults files.old ≤ F.faults files.new }
     ensures out_later { O.faults out.old ≤ O.faults out.new }

@@ -1,6 +1,6 @@
 //! Writing what came at the exports.
 
-ghost use Rattle.std.specs.Prelude.{◌≡◌, ◌<◌, ◌≤◌, ◌++◌, ◌∷◌, [], ℕ, List, All, IsTrue, IsSome, IfOk, IfErr, OnOk, OnErr, Err, Some, get_or, length, map};
+ghost use Rattle.std.specs.Prelude.{◌≡◌, ◌<◌, ◌≤◌, ◌+◌, ◌-◌, ◌++◌, ◌∷◌, [], ℕ, List, All, IsTrue, IsSome, IfOk, IfErr, OnOk, OnErr, Err, Some, get_or, length, map};
 ghost use Rattle.std.specs.List.{AllByRecursion, flat_map};
 ghost use Rattle.std.specs.Option.{option_to_list};
 ghost use Rattle.ds_port.specs.Causes.{HasCause};
@@ -94,6 +94,8 @@ pub fn write_sink<F: Files>(
     ensures name { IfOk result (λ output. F.Output.name output ≡ Some file.now) }
     ensures tallied { OnOk result (Grows tally.old tally.new (flat_map (export_faults op form.now schema.now) (joined parts.now))) }
     ensures same { F.holds files.new ≡ F.holds files.old }
+    ensures lent { IfOk result (λ output. F.lent files.new ≡ F.lent files.old + 1) }
+    ensures none_lent { OnErr result (F.lent files.new ≡ F.lent files.old) }
     ensures cause { HasCause (F.faults files.old) (F.faults files.new) (result ≡ Err FileFault.Device) }
 {
     let mut output = match files.create(alloc, file) {
@@ -159,6 +161,8 @@ fn write_kind<F: Files>(
     ensures named { IfOk result (λ made. All (λ o. IsSome (F.Output.name o)) (option_to_list made)) }
     ensures tallied { OnOk result (Grows tally.old tally.new (faults_at shaped.now op parts.now kind.now)) }
     ensures same { F.holds files.new ≡ F.holds files.old }
+    ensures lent { IfOk result (λ made. F.lent files.new ≡ F.lent files.old + length (option_to_list made)) }
+    ensures none_lent { OnErr result (F.lent files.new ≡ F.lent files.old) }
     ensures cause { HasCause (F.faults files.old) (F.faults files.new) (result ≡ Err FileFault.Device) }
 {
     match kind {
@@ -182,6 +186,8 @@ fn put_output<F: Files>(
     ensures err { OnErr result (outputs.new.items ≡ outputs.old.items) }
     ensures memory { IfErr result (λ fault. fault ≡ FileFault.Memory) }
     ensures same { F.holds files.new ≡ F.holds files.old }
+    ensures lent { OnOk result (F.lent files.new ≡ F.lent files.old) }
+    ensures returned { OnErr result (F.lent files.new ≡ F.lent files.old - length (option_to_list output)) }
     ensures later { F.faults files.old ≤ F.faults files.new }
 {
     let Some(output) = output else {
@@ -222,6 +228,9 @@ fn write_at<F: Files>(
     ensures named { All (λ o. IsSome (F.Output.name o)) outputs.old.items → OnOk result (All (λ o. IsSome (F.Output.name o)) outputs.new.items) }
     ensures tallied { OnOk result (Grows tally.old tally.new (faults_at shaped.now op parts.now (op_at shaped.now op).kind)) }
     ensures same { F.holds files.new ≡ F.holds files.old }
+    ensures lent { OnOk result (F.lent files.new + length outputs.old.items ≡ F.lent files.old + length outputs.new.items) }
+    ensures none_lent { OnErr result (F.lent files.new ≡ F.lent files.old) }
+    ensures kept { OnErr result (outputs.new.items ≡ outputs.old.items) }
     ensures cause { HasCause (F.faults files.old) (F.faults files.new) (result ≡ Err FileFault.Device) }
 {
     shaped.is_shaped();
@@ -244,6 +253,8 @@ pub fn write_sinks<F: Files>(
     ensures named { IfOk result (λ outputs. All (λ o. IsSome (F.Output.name o)) outputs.items) }
     ensures tallied { (given : FileMap) (ops : ℕ → Op) (parts : ℕ → List (List Cells)) → AreOps given shaped.now ops → ComeAt shaped.now sinks.now parts → OnOk result (Grows tally.old tally.new (flat_map (faults_written shaped.now ops (λ l. joined (parts l))) (all_ops shaped.now))) }
     ensures same { F.holds files.new ≡ F.holds files.old }
+    ensures lent { IfOk result (λ outputs. F.lent files.new ≡ F.lent files.old + length outputs.items) }
+    ensures none_lent { OnErr result (F.lent files.new ≡ F.lent files.old) }
     ensures cause { HasCause (F.faults files.old) (F.faults files.new) (result ≡ Err FileFault.Device) }
 {
     let none = Items::new(alloc);

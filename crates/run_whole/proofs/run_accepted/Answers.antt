@@ -3,11 +3,14 @@ use Rattle.ds_port.specs.Causes.{Rose}
 use Rattle.flow_rules.specs.declared.verdict.Verdict.TheVariants.{Accepted}
 use Rattle.flow_rules.specs.Verdicts.{IsVerdict}
 use Rattle.run_finish.specs.Finished.{IsRun}
-use Rattle.run_whole.proofs.Whole.{each_choice, ends_from, is_run}
+use Rattle.run_whole.proofs.Whole.{can_write, each_choice, ends_from, is_run}
 use Rattle.run_whole.proofs.run_accepted.Goals as goal
 
 pub finish_run-requires-clause-each : goal.finish_run-requires-clause-each
 finish_run-requires-clause-each g c κs within = each_choice c.args.shaped.now c.args.choices.now c.args.nodes c.requires.ready
+
+pub finish_run-requires-clause-can : goal.finish_run-requires-clause-can
+finish_run-requires-clause-can g c κs within = can_write c.args.shaped.now c.args.choices.now c.args.nodes c.in-Ok.ran c.is_shaped.ensures c.requires.ready c.in-Ok.ensures.fit
 
 pub returns-in-Ok-clause-ends : goal.returns-in-Ok-clause-ends
 returns-in-Ok-clause-ends g c = λ tells states e.

@@ -1,5 +1,4 @@
 use Rattle.std.proofs.Common.{refl, ap, ◌∙◌, Err}
-use Rattle.ds_port.specs.Causes.{Rose}
 use Rattle.osh_call.proofs.Serving.{halts_serve}
 use Rattle.osh_ends.specs.Ends.{RunsFile}
 use Rattle.osh_run.proofs.Serving.{accepted_serves, refused_serves}
@@ -19,5 +18,5 @@ returns-in-Accepted-clause-serves g c = λ tells.
 
 pub returns-clause-serves : goal.returns-clause-serves
 returns-clause-serves g c = λ tells.
-    refused_serves (g.F.Files.holds c.args.files.now) (g.F.Files.holds c.prepare.new.files) c.args.flow.now c.args.config.now c.in-Ok.prepared.shaped c.in-Ok.prepared.nodes c.in-Ok-judged.verdict
-    c.in-Refused.link c.in-Refused.need c.in-Refused.have g.O.Sink.tells _ _ _ _ c.tell.result c.in-Refused.is (c.in-Ok.ensures.found tells) (c.in-Ok.ensures.there tells) c.in-Ok-judged.ensures c.prepare.ensures.same c.tell.ensures.told
+    refused_serves (g.F.Files.holds c.args.files.now) (g.F.Files.holds c.settle_inputs-in-Refused.new.files) c.args.flow.now c.args.config.now c.in-Ok.prepared.shaped c.in-Ok.prepared.nodes c.in-Ok-judged.verdict
+    c.in-Refused.link c.in-Refused.need c.in-Refused.have g.O.Sink.tells _ _ _ _ c.tell.result c.in-Refused.is (c.in-Ok.ensures.found tells) (c.in-Ok.ensures.there tells) c.in-Ok-judged.ensures (c.settle_inputs-in-Refused.ensures.same ∙ c.prepare.ensures.same) c.tell.ensures.told

@@ -13,14 +13,14 @@ run_accepted-requires-clause-ready g c κs within =
     (subst (IsVerdict c.args.shaped.now) c.requires.accepted.1 c.requires.verdict) c.in-Ok.ensures.seats
 
 pub returns-in-Err-clause-serves : goal.returns-in-Err-clause-serves
-returns-in-Err-clause-serves g c = λ tells there.
+returns-in-Err-clause-serves g c = λ tells.
     let old = g.F.Files.holds c.args.files.now in
     let held = g.O.Sink.held c.args.out.now in
-    seats_serve old old c.args.shaped.now c.args.nodes c.args.verdict.now c.requires.accepted.0 c.args.choices.now g.O.Sink.tells held held _ _ c.in-Err.answer
-    c.requires.accepted.1 c.in-Err.ensures.stops refl refl (λ e. absurd (c.in-Err.ensures.quiet e))
+    seats_serve old (g.F.Files.holds c.settle_inputs.new.files) c.args.shaped.now c.args.nodes c.args.verdict.now c.requires.accepted.0 c.args.choices.now g.O.Sink.tells held held _ _ c.in-Err.answer
+    c.requires.accepted.1 c.in-Err.ensures.stops c.settle_inputs.ensures.same refl (λ e. absurd (c.in-Err.ensures.quiet e))
 
-pub returns-in-Ok-run_accepted-clause-serves : goal.returns-in-Ok-run_accepted-clause-serves
-returns-in-Ok-run_accepted-clause-serves g c = λ tells there.
+pub returns-clause-serves : goal.returns-clause-serves
+returns-clause-serves g c = λ tells.
     let old = g.F.Files.holds c.args.files.now in
     let new = g.F.Files.holds c.run_accepted.new.files in
     let out_old = g.O.Sink.held c.args.out.now in
@@ -30,4 +30,4 @@ returns-in-Ok-run_accepted-clause-serves g c = λ tells there.
     let states = c.requires.accepted.0 in
     let is = c.requires.accepted.1 in
     subst (Serves (AcceptedRuns old c.args.shaped.now c.args.nodes c.args.verdict.now) old new g.O.Sink.tells out_old out_new files_rose out_rose) (sym c.answer_of.ensures.answer)
-    (run_serves old new c.args.shaped.now c.args.nodes c.in-Ok.players c.args.verdict.now states c.args.choices.now g.O.Sink.tells out_old out_new files_rose out_rose c.in-Ok-run_accepted.ending is c.in-Ok.ensures.seats (c.in-Ok-run_accepted.ensures.ends tells states is))
+    (run_serves old new c.args.shaped.now c.args.nodes c.in-Ok.players c.args.verdict.now states c.args.choices.now g.O.Sink.tells out_old out_new files_rose out_rose c.run_accepted.result is c.in-Ok.ensures.seats (c.run_accepted.ensures.ends tells states is))

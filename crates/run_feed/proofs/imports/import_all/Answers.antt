@@ -1,12 +1,10 @@
-use Rattle.run_feed.proofs.Sourcing.{can_feed, sourced}
+use Rattle.std.proofs.Common.{IsTrue}
+use Rattle.run_feed.proofs.Settling.{told_inputs}
 use Rattle.run_feed.proofs.imports.import_all.Goals as goal
 
-pub returns-in-Ok-clause-told : goal.returns-in-Ok-clause-told
-returns-in-Ok-clause-told g c = λ tells.
-    let reads = c.in_ok-reads.reads in
-    sourced (g.F.Files.holds c.args.files.now) c.args.shaped.now reads.rows reads.rejected c.in-Ok.sources c.args.tally.now c.read_all.new.tally c.requires.built (c.in_ok-reads.ensures.told tells) c.in-Ok.ensures.each
-
-pub returns-in-Ok-clause-feeds : goal.returns-in-Ok-clause-feeds
-returns-in-Ok-clause-feeds g c =
-    let reads = c.in_ok-reads.reads in
-    can_feed c.args.shaped.now reads.rows reads.rejected c.in-Ok.sources c.is_shaped.ensures c.requires.shape c.requires.built c.in_ok-reads.ensures.fit c.in-Ok.ensures.count c.in-Ok.ensures.each
+pub returns-clause-told : goal.returns-clause-told
+returns-clause-told g c = λ tells.
+    let sources = g.met.F.Files.inputs_tell tells in
+    let files = g.F.Files.holds c.args.files.now in
+    c.rows_by_link-sources.ensures.told sources files
+    (told_inputs (IsTrue g.F.Files.tells) (IsTrue g.F.Input.Source.tells) tells g.F.Input.Source.rest files c.args.shaped.now.flow.ops c.args.inputs.by_operator.items c.requires.inputs)

@@ -1,9 +1,9 @@
-use Rattle.std.proofs.Common.{rules}
-use Rattle.run_feed.proofs.Rows.{lines_suit, rows_suit}
+use Rattle.flow_files.specs.declared.import.Imported.{Imported}
+use Rattle.run_feed.proofs.Rows.{made_of_lines, made_suit}
 use Rattle.run_feed.proofs.imports.import_file.Goals as goal
 
-pub returns-in-Ok-made-clause-fit : goal.returns-in-Ok-made-clause-fit
-returns-in-Ok-made-clause-fit g c = rows_suit c.args.schema.now _ c.as_slice-fields.ensures.schema.each (search rules)
+pub returns-clause-fit : goal.returns-clause-fit
+returns-clause-fit g c = made_suit (λ (m : Imported). m.rows) c.args.schema.now _ c.as_slice-fields.ensures.schema.each c.import_rows-source.ensures.fit
 
-pub returns-in-Ok-made-clause-lines : goal.returns-in-Ok-made-clause-lines
-returns-in-Ok-made-clause-lines g c = lines_suit _ (search rules)
+pub returns-clause-lines : goal.returns-clause-lines
+returns-clause-lines g c = made_of_lines (λ (m : Imported). m.rejected) _ c.import_rows-source.ensures.lines

@@ -22,6 +22,7 @@ loop-op-preserved g c =
       tallied = found_more (faults_found shaped c.args.sinks.now) op c.args.tally.now c.loop-op.tally c.write_at.new.tally c.loop-op.invariant.tallied
           (subst (λ (parts : List (List Row)). Grows c.loop-op.tally c.write_at.new.tally (faults_at shaped op parts (op_at shaped op).kind)) e c.in_default.ensures.tallied);
       same = c.write_at.ensures.same ∙ c.loop-op.invariant.same;
+      lent = omega (arith, c.in_default.ensures.lent, c.loop-op.invariant.lent);
       later = omega (arith, c.write_at.ensures.cause.later, c.loop-op.invariant.later);
     }
 

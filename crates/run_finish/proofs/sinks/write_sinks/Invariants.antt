@@ -1,4 +1,4 @@
-use Rattle.std.proofs.Common.{◌≡◌, ◌≤◌, flat_map, map, IsTrue}
+use Rattle.std.proofs.Common.{◌≡◌, ◌≤◌, ◌+◌, flat_map, length, map, IsTrue}
 use Rattle.std.specs.Prelude.{All, IsSome}
 use Rattle.std.specs.List.{range_with_len}
 use Rattle.flow_files.specs.Tallies.{Grows}
@@ -12,5 +12,6 @@ invariant-loop-op g l = record {
   named : All (λ o. IsSome (g.F.Output.Sink.name o)) l.outputs.items;
   tallied : Grows l.fn.tally l.tally (flat_map (faults_found l.shaped l.sinks) (range_with_len 0 l.op));
   same : g.F.Files.holds l.files ≡ g.F.Files.holds l.fn.files;
+  lent : g.F.Files.lent l.files ≡ g.F.Files.lent l.fn.files + length l.outputs.items;
   later : g.F.Files.faults l.fn.files ≤ g.F.Files.faults l.files;
 }
