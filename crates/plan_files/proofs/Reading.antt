@@ -139,16 +139,16 @@ pub sources_have_files : SourcesHaveFiles
 sources_have_files c degree ops o p h q e = ap (items_on ops) (at_file_link (link_count c) o)
 
 pub flows_can_be_played : FlowsCanBePlayed
-flows_can_be_played regains files flow dict c states choices nodes ops whole fed shape of marks outs verdict some joins meaning are = record {
-  shaped = record { shape = shape; shape_of = of; kinds = λ o h. of_kind files c o (op_at c o).kind (ops o) (meaning.ops_are o h) };
-  verdict = verdict;
-  means = meaning.means;
-  outs = outs;
-  sinks = λ o h e. sink_is files c o (op_at c o).kind (ops o) (meaning.ops_are o h) e;
-  fit = nodes_fit c choices nodes shape some verdict.choices_are (λ o h. unstored files c o (op_at c o).kind (ops o) (op_at c o).mark (meaning.ops_are o h) (mark_at o h)) joins;
-  degrees = λ o h. fits_degree files c o nodes (op_at c o).kind (ops o) (op_at c o).mark _ (meaning.ops_are o h) (mark_at o h);
-  files = λ o p h q e. subst (IsFileOf (ops o) p) (sym (are o p h q e)) (is_file files c o p (op_at c o).kind (ops o) (meaning.ops_are o h));
+flows_can_be_played regains files flow dict c states choices nodes ops whole fed a are = record {
+  shaped = record { shape = a.shape; shape_of = a.shape_of; kinds = λ o h. of_kind files c o (op_at c o).kind (ops o) (a.meaning.ops_are o h) };
+  verdict = a.verdict;
+  means = a.meaning.means;
+  outs = a.outs;
+  sinks = λ o h e. sink_is files c o (op_at c o).kind (ops o) (a.meaning.ops_are o h) e;
+  fit = nodes_fit c choices nodes a.shape a.some a.verdict.choices_are (λ o h. unstored files c o (op_at c o).kind (ops o) (op_at c o).mark (a.meaning.ops_are o h) (mark_at o h)) a.joins;
+  degrees = λ o h. fits_degree files c o nodes (op_at c o).kind (ops o) (op_at c o).mark _ (a.meaning.ops_are o h) (mark_at o h);
+  files = λ o p h q e. subst (IsFileOf (ops o) p) (sym (are o p h q e)) (is_file files c o p (op_at c o).kind (ops o) (a.meaning.ops_are o h));
 }
   where
     mark_at : (o : ℕ) → o < length c.flow.ops → MarkFits (op_at c o).kind (op_at c o).mark
-    mark_at o h = all_at (λ (s : OpSpec). MarkFits s.kind s.mark) c.flow.ops o no_op (subst KeepsMarks (sym of.same) marks) h
+    mark_at o h = all_at (λ (s : OpSpec). MarkFits s.kind s.mark) c.flow.ops o no_op (subst KeepsMarks (sym a.shape_of.same) a.marks) h

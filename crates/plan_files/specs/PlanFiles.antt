@@ -57,8 +57,18 @@ FilesAre c degree ops fed = (o p : ℕ) → o < op_count c → p < degree o → 
 abbrev pub SourcesHaveFiles : Type 0
 SourcesHaveFiles = (c : Chart) (degree : ℕ → ℕ) (ops : ℕ → Op) → FilesAre c degree ops (source_files c ops)
 
--- Where a flow has a shape, with the marks and outputs that each flow that is read has, is accepted, and joins equal degrees on some nodes, then it can be played on them over its files.
+-- An accepted flow over its files: its shape, with the marks and outputs that each flow that is read has, its verdict, nodes on which its `same` joins equal degrees, and what the files make of it.
+pub record AcceptedFlow (regains : Bool) (files : FileMap) (flow : Flow) (dict : List Stored) (c : Chart) (states : List State) (choices : List Choice) (nodes : ℕ) (ops : ℕ → Op) (whole : ℕ → List Row) : Type 0 where
+  pub shape : IsShape c
+  pub shape_of : IsShapeOf flow dict c
+  pub marks : KeepsMarks flow
+  pub outs : LinksOutputs c
+  pub verdict : IsVerdictBy regains c (Accepted states choices)
+  pub some : 0 < nodes
+  pub joins : JoinsEqual c choices nodes
+  pub meaning : IsMeaning files c ops whole
+
+-- It can be played, if each source is fed its file.
 abbrev pub FlowsCanBePlayed : Type 0
 FlowsCanBePlayed = (regains : Bool) (files : FileMap) (flow : Flow) (dict : List Stored) (c : Chart) (states : List State) (choices : List Choice) (nodes : ℕ) (ops : ℕ → Op) (whole : ℕ → List Row) (fed : Lane → List Datum) →
-    IsShape c → IsShapeOf flow dict c → KeepsMarks flow → LinksOutputs c → IsVerdictBy regains c (Accepted states choices) → 0 < nodes → JoinsEqual c choices nodes → IsMeaning files c ops whole → FilesAre c (degree_at c nodes) ops fed →
-    Played regains flow dict c states choices ops whole (degree_at c nodes) (unwritable_at c) fed
+    AcceptedFlow regains files flow dict c states choices nodes ops whole → FilesAre c (degree_at c nodes) ops fed → Played regains flow dict c states choices ops whole (degree_at c nodes) (unwritable_at c) fed

@@ -53,7 +53,7 @@ executions_keep regains flow dict c states choices ops whole degree unwritable f
     run_keeps regains flow dict c states choices ops whole _ (record { shaped = p.shaped; verdict = p.verdict; means = p.means; legal = tied.runs })
 
 module _ (flow : Rattle.flow_graph.specs.declared.flow.Flow.Flow) (dict : List Rattle.flow_graph.specs.declared.parts.Stored.Stored) (c : Chart) (ops : ℕ → Op) (degree : ℕ → ℕ) (unwritable : ℕ → Row → List Fault) where
-  flow_wired : ShapedFlow flow dict c ops → ChoicesFit c (choice_at c) degree → LinksOutputs c → SinksAre c ops unwritable → IsWired (plan_of c (choice_at c) degree (stream_at c unwritable))
+  pub flow_wired : ShapedFlow flow dict c ops → ChoicesFit c (choice_at c) degree → LinksOutputs c → SinksAre c ops unwritable → IsWired (plan_of c (choice_at c) degree (stream_at c unwritable))
   flow_wired shaped fit outs sinks = plans_are_wired c (choice_at c) degree (stream_at c unwritable) shaped.shape fit (record {
     are = λ o h. (kinds_work flow dict c ops unwritable shaped outs sinks o h).is_stream;
     ports = λ o h. (kinds_work flow dict c ops unwritable shaped outs sinks o h).ports;
