@@ -1,12 +1,11 @@
 -- Of an accepted flow over its files the step core goes on until it is finished, and then it keeps what the flow means.
-use Rattle.std.proofs.Common.{◌≡◌, ℕ, List, sym, ap, subst}
-use Rattle.streams.specs.Core.{Lane, AreFiles}
+use Rattle.std.proofs.Common.{◌≡◌, sym, subst}
+use Rattle.streams.specs.Core.{AreFiles}
 use Rattle.streams.specs.Wiring.{IsWired}
 use Rattle.core_laws.specs.Files.{files_of}
 use Rattle.core_laws.proofs.Driving.{plan_never_stuck}
 use Rattle.core_laws.proofs.Filing.{plan_files_are}
 use Rattle.flow_score.specs.Scores.{degree_at}
-use Rattle.flow_plan.specs.Data.{Datum}
 use Rattle.plan_promise.proofs.Playing.{flow_wired, finished_keeps}
 use Rattle.plan_files.specs.PlanFiles.{source_files, unwritable_at, FilesAre}
 use Rattle.plan_files.specs.FlowPlays.{plan_on, shape_on, FlowsPlayRight}
