@@ -357,7 +357,7 @@ missing_by before cut w ts op true e f g =
       left = a.left;
       parts = ap (λ (xs : List Lexeme). w ∷ xs) a.parts;
       never = λ more p h k. no_answer (head_at before false (w ∷ (a.options ++ more))) (refusal.At w.at causes.MissingOption) p (missing before false w (a.options ++ more) op e f (still_missing op ts (a.options ++ more) lacks (lacks_same op ts (a.options ++ more) (λ word. a.same word more h)))) k;
-      place = record { before = []; operator = w; options = a.options; parts = refl; is_word = same_sort sort.Word w.sort e; all = a.all; goes = goes_on cut (ends_ahead false ts) a.left goes a.ends; place = refl };
+      place = record { before = []; operator = w; options = a.options; parts = refl; is_word = same_sort sort.Word w.sort e; op = op; named = f; lacks = ap (lacks_option op) (sym a.parts) ∙ lacks; all = a.all; goes = goes_on cut (ends_ahead false ts) a.left goes a.ends; place = refl };
     })
 
 operator_by : (before : ℕ) (cut : Bool) (w : Lexeme) (ts : List Lexeme) (o : Option OpName) → is_sort sort.Word w.sort ≡ true → operator_named w.bytes ≡ o → Outcome cut (head_at before false) (w ∷ ts) (head_at before cut (w ∷ ts))

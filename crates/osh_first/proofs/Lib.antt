@@ -5,3 +5,4 @@ pub mod Heads
 pub mod Stages
 pub mod Wholes
 pub mod Refused
+pub mod Stopped

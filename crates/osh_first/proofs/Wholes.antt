@@ -139,3 +139,7 @@ sound_front (t ∷ a) b h = (h.0, sound_front a b h.1)
 pub sound_both : (a b : List Lexeme) → AllSound a → AllSound b → AllSound (a ++ b)
 sound_both [] b h k = k
 sound_both (t ∷ a) b h k = (h.0, sound_both a b h.1 k)
+
+pub sound_back : (a b : List Lexeme) → AllSound (a ++ b) → AllSound b
+sound_back [] b h = h
+sound_back (t ∷ a) b h = sound_back a b h.1

@@ -1,13 +1,14 @@
 -- How the place of a fault lies to the token with which no flow goes on.
-use Rattle.std.specs.Prelude.{◌≡◌, ◌⊎◌, ℕ, List, [], ◌∷◌, ◌++◌, None, Bool, true, false, ◌&&◌, if◌then◌else◌, codes}
+use Rattle.std.specs.Prelude.{◌≡◌, ◌⊎◌, ℕ, List, [], ◌∷◌, ◌++◌, Some, None, Bool, true, false, ◌&&◌, if◌then◌else◌, codes}
 use Rattle.ds_lex.specs.declared.token.Sort.TheVariants as sort
 use Rattle.ds_lex.specs.Lexemes.{Lexeme}
 use Rattle.ds_lex.specs.Reading.{first_of}
 use Rattle.ds_lex.specs.Phrases.{word}
+use Rattle.osh_table.specs.declared.operator.OpName.{OpName}
 use Rattle.osh_table.specs.Words.{operator_named}
 use Rattle.osh_read.specs.declared.fault.OshWhy.{OshWhy}
 use Rattle.osh_read.specs.declared.fault.OshWhy.TheVariants as causes
-use Rattle.osh_read.specs.Options.{is_opt, is_value, value_comes}
+use Rattle.osh_read.specs.Options.{is_opt, is_value, value_comes, lacks_option}
 
 -- it is that token, the first of those that are left
 abbrev pub IsNext : ℕ → (Lexeme → Type 0) → List Lexeme → Type 0
@@ -48,13 +49,16 @@ behind_options may (t ∷ ts) =
     else if may && is_value t.sort then behind_options false ts
     else t ∷ ts
 
--- it is an operator, whose options stand between it and that token
+-- it is an operator that lacks an option, and its options stand between it and that token
 pub record IsOperator (cut : Bool) (at : ℕ) (front left : List Lexeme) : Type 0 where
   pub before : List Lexeme
   pub operator : Lexeme
   pub options : List Lexeme
   pub parts : front ≡ before ++ operator ∷ options
   pub is_word : operator.sort ≡ sort.Word
+  pub op : OpName
+  pub named : operator_named operator.bytes ≡ Some op
+  pub lacks : lacks_option op (options ++ left) ≡ true
   pub all : behind_options false (options ++ left) ≡ left
   pub goes : Goes cut left
   pub place : at ≡ operator.at

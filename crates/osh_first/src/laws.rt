@@ -1,8 +1,10 @@
-//! The law of the place at which a text is refused.
+//! The laws of the place at which a text is refused.
 
-ghost use Rattle.osh_first.specs.FirstLaws.{RefusedStops};
+ghost use Rattle.osh_first.specs.FirstLaws.{RefusedStops, StoppedIsNone};
 
-/// A text that is refused stops being a flow where the fault says.
+/// A text that is refused stops being a flow where the fault says, and one that stops so spells
+/// none.
 pub fn refused_texts_stop()
-    ensures { RefusedStops }
+    ensures stops { RefusedStops }
+    ensures none { StoppedIsNone }
 {}
