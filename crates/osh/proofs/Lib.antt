@@ -1,3 +1,4 @@
 pub mod Ending
 pub mod Obeying
+pub mod Saying
 pub mod Words

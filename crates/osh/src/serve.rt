@@ -1,9 +1,9 @@
 //! All of a call but its line on err.
 
-ghost use Rattle.std.specs.Prelude.{◌≡◌, ◌⊎◌, map, string_bytes, IsTrue};
+ghost use Rattle.std.specs.Prelude.{◌≡◌, ◌≤◌, ◌⊎◌, map, string_bytes, IsTrue};
 ghost use Rattle.ds_port.specs.Causes.{Rose};
 ghost use Rattle.osh_ends.specs.Ends.{Commands, ComesTo};
-ghost use Rattle.osh_call.specs.Answers.{IsOfCommand, Serves};
+ghost use Rattle.osh_call.specs.Answers.{IsOfCommand, IsSilent, Serves};
 ghost use Rattle.osh_words.specs.declared.command.Command.{Command as Spelled};
 ghost use Rattle.osh_words.specs.Spelled.{Spells};
 ghost use Rattle.osh.specs.Calls.{IsNoCommand, IsUnbuilt};
@@ -19,6 +19,10 @@ fn obey<F: Files, O: Sink>(alloc: Global, files: &mut F, out: &mut O, command: &
     ensures serves { IsTrue F.tells → Serves (Commands (F.holds files.old) command.now) (F.holds files.old) (F.holds files.new) O.tells (O.held out.old) (O.held out.new) (Rose (F.faults files.old) (F.faults files.new)) (Rose (O.faults out.old) (O.faults out.new)) result }
     ensures device { result ≡ Answer.Device → Rose (F.faults files.old) (F.faults files.new) ⊎ Rose (O.faults out.old) (O.faults out.new) }
     ensures command { IsOfCommand result }
+    ensures silent { IsSilent result → out.new ≡ out.old }
+    ensures lent { F.lent files.new ≡ F.lent files.old }
+    ensures files_later { F.faults files.old ≤ F.faults files.new }
+    ensures out_later { O.faults out.old ≤ O.faults out.new }
     ensures unbuilt { IsUnbuilt command.now → result ≡ Answer.Unbuilt }
 {
     match command {
@@ -48,6 +52,10 @@ pub fn serve<F: Files, O: Sink>(
 ) -> Answer
     ensures serves { IsTrue F.tells → Serves (ComesTo (map string_bytes words.now) (F.holds files.old)) (F.holds files.old) (F.holds files.new) O.tells (O.held out.old) (O.held out.new) (Rose (F.faults files.old) (F.faults files.new)) (Rose (O.faults out.old) (O.faults out.new)) result }
     ensures device { result ≡ Answer.Device → Rose (F.faults files.old) (F.faults files.new) ⊎ Rose (O.faults out.old) (O.faults out.new) }
+    ensures silent { IsSilent result → out.new ≡ out.old }
+    ensures lent { F.lent files.new ≡ F.lent files.old }
+    ensures files_later { F.faults files.old ≤ F.faults files.new }
+    ensures out_later { O.faults out.old ≤ O.faults out.new }
     ensures none { IsNoCommand (map string_bytes words.now) → (result ≡ Answer.Usage) ⊎ (result ≡ Answer.Memory) }
     ensures only { result ≡ Answer.Usage → IsNoCommand (map string_bytes words.now) }
     ensures unbuilt { (c : Spelled) → Spells (map string_bytes words.now) c → IsUnbuilt c → (result ≡ Answer.Unbuilt) ⊎ (result ≡ Answer.Memory) }

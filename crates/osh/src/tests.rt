@@ -1,7 +1,9 @@
-use crate::still::osh_still;
+use crate::arguments::gather;
+use crate::still::{lack_memory, osh_still};
 use ds_port::{FailsAt, Failures, MemFiles, MemSink, NeverFails};
 use ds_value::{Bytes, Name};
 use std::alloc::Global;
+use std::io;
 use std::process::Abort;
 use std::test::Fail;
 
@@ -397,7 +399,6 @@ fn each_failing_call_is_told(rt: HostRuntime) -> Result<(), Fail> {
         (2, 99, 99, 99, 10),
         (3, 99, 99, 99, 10),
         (4, 99, 99, 99, 10),
-        (5, 99, 99, 99, 10),
         (99, 0, 99, 99, 10),
         (99, 1, 99, 99, 10),
         (99, 99, 0, 99, 10),
@@ -419,5 +420,115 @@ fn each_failing_call_is_told(rt: HostRuntime) -> Result<(), Fail> {
             status == 0 || printed < 99
         );
     }
+    Ok(())
+}
+
+/// A call over two sinks in which a call of files or of err fails, or whose input has faults: the
+/// numbers of the calls that fail, and what it comes to.
+struct Failing {
+    flow: &'static [u8],
+    input: &'static [u8],
+    files: u64,
+    told: u64,
+    status: u8,
+    err: &'static [u8],
+    written: Option<&'static [u8]>,
+    rest: Option<&'static [u8]>,
+}
+
+// The commit of the second sink, then that of the first, fail; then err where a line is due; the
+// last has faults.
+static FAILING: [Failing; 5] = [
+    Failing {
+        flow: PARTED,
+        input: b"  7ann \n 10cid\n",
+        files: 6,
+        told: 99,
+        status: 10,
+        err: b"osh: device\n",
+        written: Some(b"ann;7\n"),
+        rest: None,
+    },
+    Failing {
+        flow: PARTED,
+        input: b"  7ann \n 10cid\n",
+        files: 5,
+        told: 99,
+        status: 10,
+        err: b"osh: device\n",
+        written: None,
+        rest: None,
+    },
+    Failing {
+        flow: PARTED,
+        input: b"  7ann \n 10cid\n",
+        files: 0,
+        told: 0,
+        status: 10,
+        err: b"",
+        written: None,
+        rest: None,
+    },
+    Failing {
+        flow: b"import",
+        input: b"",
+        files: 99,
+        told: 0,
+        status: 2,
+        err: b"",
+        written: None,
+        rest: None,
+    },
+    Failing {
+        flow: PARTED,
+        input: b"  7ann \n  xcid\n",
+        files: 99,
+        told: 99,
+        status: 9,
+        err: b"",
+        written: None,
+        rest: None,
+    },
+];
+
+#[test]
+fn what_was_made_stays(rt: HostRuntime) -> Result<(), Fail> {
+    let alloc = rt.alloc();
+    let words = run_words(alloc)?;
+    for run in &FAILING {
+        let own = FailsAt::new(vec![in alloc; run.files]?);
+        let mut files = MemFiles::new(alloc, own, FailsAt::new(Vec::new(alloc)));
+        put(alloc, &mut files, b"f.osh", run.flow)?;
+        put(alloc, &mut files, b"c.cfg", &config(alloc, 1)?)?;
+        put(alloc, &mut files, b"in.txt", run.input)?;
+        let mut out = MemSink::new(alloc, None, NeverFails);
+        let mut err = MemSink::new(alloc, None, FailsAt::new(vec![in alloc; run.told]?));
+        let answered = osh_still(alloc, &words, &mut files, &mut out, &mut err);
+        assert_eq!(rt; answered.0, run.status);
+        assert_eq!(rt; err.bytes(), run.err);
+        assert_eq!(rt; out.bytes().is_empty(), run.status != 9);
+        assert_eq!(rt; files.look_up(b"out.txt"), run.written);
+        assert_eq!(rt; files.look_up(b"rest.txt"), run.rest);
+    }
+    Ok(())
+}
+
+#[test]
+fn arguments_become_words(rt: HostRuntime) -> Result<(), Fail> {
+    let alloc = rt.alloc();
+    let mut args = Vec::new(alloc);
+    for word in ["osh", "check", "f.osh"] {
+        args.push(String::from_str(alloc, word)?)?;
+    }
+    let words = gather(alloc, Ok(args.into_iter()))?;
+    assert_eq!(rt; words.len(), 2);
+    assert_eq!(rt; words.first().map(|word| word.as_str()), Some("check"));
+    let unread = io::Error::from(io::ErrorKind::InvalidData);
+    assert_eq!(rt; gather(alloc, Err(unread))?.len(), 0);
+    let refused = io::Error::from(io::ErrorKind::OutOfMemory);
+    assert!(rt; gather(alloc, Err(refused)).is_err());
+    let mut err = MemSink::new(alloc, None, NeverFails);
+    assert_eq!(rt; lack_memory(alloc, &mut err).0, 12);
+    assert_eq!(rt; err.bytes(), b"osh: memory\n".as_slice());
     Ok(())
 }

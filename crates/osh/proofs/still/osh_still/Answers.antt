@@ -1,6 +1,7 @@
-use Rattle.std.proofs.Common.{map, string_bytes, ◌⊎◌}
+use Rattle.std.proofs.Common.{ap, map, string_bytes, ◌⊎◌}
 use Rattle.ds_port.specs.Causes.{Rose}
 use Rattle.osh.proofs.Ending.{runs_complete, runs_exact, said_calls}
+use Rattle.osh.proofs.Saying.{said_says}
 use Rattle.osh.proofs.Words.{words_decide}
 use Rattle.osh.proofs.still.osh_still.Goals as goal
 
@@ -22,3 +23,7 @@ returns-clause-complete g c = λ tells.
 pub returns-clause-words : goal.returns-clause-words
 returns-clause-words g c =
     words_decide (map string_bytes c.args.words.now) c.serve-answer.result c.say-said.result c.status.result c.serve-answer.ensures.none c.serve-answer.ensures.only c.serve-answer.ensures.unbuilt c.say-said.ensures.said c.status.ensures
+
+pub returns-clause-says : goal.returns-clause-says
+returns-clause-says g c =
+    said_says c.serve-answer.result c.say-said.result c.status.result _ _ c.say-said.ensures.said c.status.ensures (λ s. ap g.O.Sink.held (c.serve-answer.ensures.silent s)) c.say-said.ensures.line
