@@ -4,11 +4,10 @@ use ds_port::{
 use ds_value::{Bytes, Copied, Name};
 use std::test::Fail;
 
-/// The lists alone prove which call fails: nothing is asked of an answer here.
+/// Here and in the next test the lists alone prove which call fails: nothing is asked when they run.
 #[test]
 fn lists_tell_each_answer(rt: HostRuntime) -> Result<(), Fail> {
     let alloc = rt.alloc();
-    let name = Name::from_bytes(alloc, b"a.txt")?.ok_or("no name")?;
     let mut buf = [0u8; 8];
     let mut source = MemSource::new(b"12".to_vec(alloc)?, FailsAt::new(vec![in alloc; 1]?));
     source.read(&mut buf).unwrap();
@@ -18,16 +17,27 @@ fn lists_tell_each_answer(rt: HostRuntime) -> Result<(), Fail> {
         .read(&mut buf)
         .unwrap();
     MemSink::new(alloc, None, NeverFails).finish().unwrap();
-    let mut roomy = MemSink::with_room(alloc, None, NeverFails, 8)?;
-    roomy.write(b"12345678").unwrap();
-    let (own, inner) = (vec![in alloc; 3]?, vec![in alloc; 0]?);
+    Ok(())
+}
+
+#[test]
+fn lists_tell_each_call_of_files(rt: HostRuntime) -> Result<(), Fail> {
+    let alloc = rt.alloc();
+    let name = Name::from_bytes(alloc, b"a.txt")?.ok_or("no name")?;
+    let (own, inner) = (vec![in alloc; 2]?, vec![in alloc; 0]?);
     let mut files = MemFiles::new(alloc, FailsAt::new(own), FailsAt::new(inner));
-    let mut first = files.create(alloc, &name)?;
-    let second = files.create(alloc, &name)?;
-    first.finish().unwrap_err();
-    first.finish().unwrap();
-    files.commit(first).unwrap();
-    files.commit(second).unwrap_err();
+    let mut output = files.create(alloc, &name)?;
+    output.finish().unwrap_err();
+    output.finish().unwrap();
+    files.commit(output).unwrap();
+    Ok(())
+}
+
+#[test]
+fn a_sink_takes_what_it_has_room_for(rt: HostRuntime) -> Result<(), Fail> {
+    let mut roomy = MemSink::with_room(rt.alloc(), None, NeverFails, 8)?;
+    roomy.write(b"12345678").unwrap();
+    assert_eq!(rt; roomy.bytes(), b"12345678".as_slice());
     Ok(())
 }
 
