@@ -1,4 +1,4 @@
-# Completion for bash: `source tools/osh.bash` in ~/.bashrc, with osh on the PATH or called as bin/osh.
+# Completion for bash: `source tools/osh.bash`, in ~/.bashrc with the whole path of it, with osh on the PATH or called as bin/osh.
 
 _osh_files() { # _osh_files ENDING: files with it first of all, else any file
     local IFS=$'\n'
