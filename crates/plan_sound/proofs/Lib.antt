@@ -3,6 +3,5 @@ pub mod Collecting
 pub mod Bringing
 pub mod Giving
 pub mod Tying
-pub mod Runs
 pub mod Meaning
 pub mod Working
