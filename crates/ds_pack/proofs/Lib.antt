@@ -1,2 +1,3 @@
+pub mod Batched
 pub mod Numbers
 pub mod Rows

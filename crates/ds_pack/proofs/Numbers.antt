@@ -1,5 +1,5 @@
 -- Numbers of several bytes: what is read of some bytes is written as these.
-use Rattle.std.proofs.Common.{◌≡◌, ◌<◌, ◌≤◌, ℕ, ℤ, zero, suc, ◌+◌, ◌-◌, ◌*◌, ◌/◌, ◌%◌, ◌^◌, List, [], ◌∷◌, ◌++◌, Some, length, take, drop, get_or, slice_index, Fits, FitsSigned, w8, refl, sym, ap, ◌∙◌, arith}
+use Rattle.std.proofs.Common.{◌≡◌, ◌<◌, ◌≤◌, ℕ, ℤ, zero, suc, ◌+◌, ◌*◌, ◌/◌, ◌%◌, ◌^◌, List, [], ◌∷◌, ◌++◌, Some, length, take, drop, get_or, slice_index, Fits, FitsSigned, w8, refl, sym, ap, ◌∙◌, arith}
 use Rattle.std.specs.Int.{w128, byte_at, bytes_high_first, cast_signed, cast_unsigned}
 use Rattle.ds_value.specs.declared.value.Value.TheVariants.{Dec}
 use Rattle.ds_pack.specs.Packed.{FirstValue}

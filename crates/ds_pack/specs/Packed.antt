@@ -1,5 +1,5 @@
 -- Rows as bytes: the canonical bytes of their values, one after another.
-use Rattle.std.specs.Prelude.{◌≡◌, ◌++◌, ℕ, true, List, [], Option, Some, None, length, drop}
+use Rattle.std.specs.Prelude.{◌≡◌, ◌++◌, ℕ, true, List, Option, Some, None, length, drop}
 use Rattle.std.specs.List.{flat_map}
 use Rattle.ds_value.specs.declared.value.Value.{Value}
 use Rattle.ds_value.specs.Canonical.{canonical_bytes, IsHeld, IsShort}

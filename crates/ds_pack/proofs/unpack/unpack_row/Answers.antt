@@ -1,4 +1,4 @@
-use Rattle.std.proofs.Common.{◌≡◌, ◌<◌, ◌∙◌, ap, sym, subst, length, take, drop, None, ◌-◌}
+use Rattle.std.proofs.Common.{◌<◌, sym, subst, length, take, drop, None, ◌-◌}
 use Rattle.std.proofs.lemmas.List.{take_rest}
 use Rattle.ds_pack.specs.Packed.{FirstValue}
 use Rattle.ds_pack.proofs.Rows.{row_ends}
