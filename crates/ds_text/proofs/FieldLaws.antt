@@ -14,7 +14,7 @@ use Rattle.ds_schema.specs.Schemas.{IsField, fits_field, row_fits}
 use Rattle.ds_text.specs.Cells.{Cell, text_of, cell_text, doubled, BeginsPlain, IsText, IsCell, behind}
 use Rattle.ds_text.specs.Records.{NullOr, Means, is_null_cell, is_empty, is_null, SpellsFields, needs_quotes, written_field, written_more, written_fields}
 use Rattle.ds_text.specs.RecordLaws.{ends_with}
-use Rattle.ds_text.specs.Reading.{after}
+use Rattle.ds_text.proofs.Rests.{after}
 use Rattle.ds_text.proofs.FieldRows.{parted, one_null_or}
 use Rattle.ds_text.proofs.FieldWriting.{and_parts, kind_fits}
 

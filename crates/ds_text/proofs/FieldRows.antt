@@ -8,7 +8,8 @@ use Rattle.ds_value.proofs.Spellings.{spells_once}
 use Rattle.ds_schema.specs.declared.schema.Field.{Field}
 use Rattle.ds_text.specs.Cells.{text_of, behind}
 use Rattle.ds_text.specs.Records.{NullOr, Means, is_null_cell, SpellsFields}
-use Rattle.ds_text.specs.Reading.{Front, front_of, after, left_of, FieldAt, NoField}
+use Rattle.ds_text.specs.Reading.{Front, front_of, FieldAt, NoField}
+use Rattle.ds_text.proofs.Rests.{after, left_of}
 use Rattle.ds_text.proofs.FrontLaws.{front_spelled, front_again, behind_after, after_behind}
 use Rattle.ds_text.proofs.Partial.{ReadsSoFar, IsNext, next, none, all}
 

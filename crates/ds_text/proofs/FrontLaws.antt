@@ -4,7 +4,8 @@ use Rattle.std.specs.List.{AllByRecursion}
 use Rattle.std.proofs.lemmas.List.{take_at, drop_at, take-append-drop}
 use Rattle.std.proofs.lemmas.Bool.{eqb-true, eq-eqb}
 use Rattle.ds_text.specs.Cells.{doubled, text_of, BeginsPlain, IsText, behind}
-use Rattle.ds_text.specs.Reading.{Quoted, unquoted, with_front, plain_len, plain_front, Front, front_of, closed, ends_field, after}
+use Rattle.ds_text.specs.Reading.{Quoted, unquoted, with_front, plain_len, plain_front, Front, front_of, closed, ends_field}
+use Rattle.ds_text.proofs.Rests.{after}
 
 begun : (x : ℕ) (r : Option Quoted) (q : Quoted) → with_front (x ∷ []) r ≡ Some q → (p : Quoted) × (r ≡ Some p) × (q ≡ record { bytes = x ∷ p.bytes; rest = p.rest })
 begun x None q e = cc

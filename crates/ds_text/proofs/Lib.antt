@@ -9,6 +9,7 @@ pub mod FrontLaws
 pub mod Fronts
 pub mod Partial
 pub mod PieceLemmas
+pub mod Rests
 pub mod Underway
 pub mod Unquoting
 pub mod RecordProofs

@@ -70,12 +70,3 @@ NoField d f line =
 -- the text means no value
 abbrev pub MeansNone : Bool → Kind → List ℕ → Type 0
 MeansNone null k bytes = (v : Value) → NullOr null k bytes v → ⊥
-
--- what is left of a line
-abbrev pub left_of : Bool → List ℕ → Option (List ℕ)
-left_of true rest = Some rest
-left_of false rest = None
-
-abbrev pub after : List ℕ → Option (List ℕ)
-after [] = None
-after (b ∷ bs) = Some bs

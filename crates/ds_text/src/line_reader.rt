@@ -156,6 +156,8 @@ impl<S: Source> Lines<S> {
     pub fn new(alloc: Global, source: S) -> Lines<S>
         ensures left { result.left ≡ S.rest source }
         ensures lines { remaining result ≡ lines_of (S.rest source) }
+        ensures room { result.room ≡ 2 ^ 40 }
+        ensures held { result.held ≡ 0 }
         ensures faults { result.faults ≡ S.faults source }
     {
         Lines {
@@ -167,8 +169,10 @@ impl<S: Source> Lines<S> {
         }
     }
 
+    /// The source, without the bytes that were taken from it.
     pub fn into_inner(self) -> S
-        ensures { S.faults result ≡ self.faults }
+        ensures rest { IsTrue S.tells → S.rest result ≡ drop self.held self.left }
+        ensures faults { S.faults result ≡ self.faults }
     {
         let Lines { source, .. } = self;
         source

@@ -1,4 +1,4 @@
-use Rattle.ds_text.specs.Reading.{left_of}
+use Rattle.ds_text.proofs.Rests.{left_of}
 use Rattle.ds_text.proofs.FieldRows.{ReadsFields}
 use Rattle.ds_text.proofs.fields.read_fields.Given as goal
 
