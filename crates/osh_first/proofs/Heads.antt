@@ -1,15 +1,16 @@
 -- Operators with their options: where reading them stops nothing is read, whatever follows. A text that is cut off behind its
 -- tokens is read as one that isn't, but that fewer faults come.
-use Rattle.std.proofs.Common.{◌≡◌, ℕ, List, [], ◌∷◌, ◌++◌, Bool, true, false, Ok, Err, Option, Some, None, refl, sym, ap, ◌∙◌, subst, append_assoc}
+use Rattle.std.proofs.Common.{◌≡◌, inl, inr, ℕ, List, [], ◌∷◌, ◌++◌, length, Bool, true, false, Ok, Err, Option, Some, None, refl, sym, ap, ◌∙◌, subst, append_assoc, arith, length-append}
 use Rattle.std.specs.Prelude.{nat_le, not, ◌&&◌, ◌||◌}
-use Rattle.std.specs.List.{list_any, list_all}
+use Rattle.std.specs.List.{list_any, list_all, AllByRecursion}
 use Rattle.std.specs.Str.{bytes_eq}
 use Rattle.std.specs.Cmp.{first_so, second_so}
+use Rattle.std.proofs.lemmas.Bool.{not-true, or_cases}
 use Rattle.ds_lex.specs.declared.token.Sort.TheVariants as sort
 use Rattle.ds_lex.specs.declared.refusal.Refusal.TheVariants as refusal
 use Rattle.ds_lex.specs.Lexemes.{Lexeme}
 use Rattle.ds_lex.specs.Reading.{◌>>=◌, is_sort, sort_at, first_of}
-use Rattle.ds_lex.proofs.Readers.{bind, bind_ok, same_sort}
+use Rattle.ds_lex.proofs.Readers.{bind, bind_ok, same_sort, bytes_same}
 use Rattle.ds_schema.proofs.ListReaders.{ok_parts}
 use Rattle.flow_graph.specs.declared.op_kind.OpKind.{OpKind}
 use Rattle.osh_table.specs.declared.operator.OpName.{OpName}
@@ -21,10 +22,10 @@ use Rattle.osh_value.specs.Kinds.{kind_of}
 use Rattle.osh_read.specs.declared.fault.OshWhy.{OshWhy}
 use Rattle.osh_read.specs.declared.fault.OshWhy.TheVariants as causes
 use Rattle.osh_read.specs.Reading.{Read}
-use Rattle.osh_read.specs.Options.{is_opt, is_value, settings_at, stands_ahead, ends_ahead, is_absent, is_lacking, lacks_option, is_missing, operator_of, complete, head_at}
+use Rattle.osh_read.specs.Options.{is_opt, is_value, settings_at, stands_ahead, ends_ahead, is_absent, is_lacking, needs_any, lacks_option, is_missing, operator_of, complete, head_at}
 use Rattle.osh_sound.proofs.OptionsHold.{passed_test}
 use Rattle.osh_sound.proofs.Fronts.{pair_parts, sort_taken}
-use Rattle.osh_first.specs.Places.{Goes, IsOption, StageFails, behind_options}
+use Rattle.osh_first.specs.Places.{Goes, IsOption, IsAbsent, LacksOne, Lacks, StageFails, behind_options}
 use Rattle.osh_first.proofs.Local.{Reads, Outcome, some_first, none_first, no_answer, went_gives, stuck_first}
 use Rattle.osh_first.proofs.Options.{OptionsFail, AreSaid, behind_token, settings_local, settings_said}
 
@@ -68,6 +69,51 @@ ahead_by may t ts false false e f r s = record {
 ahead : (may : Bool) (ts : List Lexeme) → Ahead may ts
 ahead may [] = record { options = []; left = []; parts = refl; all = refl; same = λ word more h. ap (stands_ahead may word) (none_first more h); ends = λ n. refl }
 ahead may (t ∷ ts) = ahead_by may t ts (is_opt t.sort) (may && is_value t.sort) refl refl (ahead true ts) (ahead false ts)
+
+-- what isn't seen among the options at the front isn't there
+not_either : (a b : Bool) → (a || b) ≡ false → (a ≡ false) × (b ≡ false)
+not_either true b h = absurd cc
+not_either false b h = (refl, h)
+
+never_shorter : (t : Lexeme) (front left : List Lexeme) → t ∷ (front ++ left) ≡ left → ⊥
+never_shorter t front left e = let k = ap length e in let l = length-append front left in absurd (omega arith)
+
+absent_by : (may : Bool) (word : List ℕ) (t : Lexeme) (options left : List Lexeme) (a b : Bool) → is_opt t.sort ≡ a → (may && is_value t.sort) ≡ b
+    → ((m : Bool) → behind_options m (options ++ left) ≡ left → stands_ahead m word (options ++ left) ≡ false → AllByRecursion (λ (o : Lexeme). o.sort ≡ sort.Opt → o.bytes ≡ word → ⊥) options)
+    → behind_options may (t ∷ (options ++ left)) ≡ left → stands_ahead may word (t ∷ (options ++ left)) ≡ false → AllByRecursion (λ (o : Lexeme). o.sort ≡ sort.Opt → o.bytes ≡ word → ⊥) (t ∷ options)
+absent_by may word t options left true b e f others h k =
+    let seen : (bytes_eq t.bytes word || stands_ahead true word (options ++ left)) ≡ false = rw e at k in
+    let n = not_either (bytes_eq t.bytes word) (stands_ahead true word (options ++ left)) seen in
+    ((λ s same. (let y = bytes_same t.bytes word same in let z : true ≡ false = sym y ∙ n.0 in absurd cc)), others true (rw e at h) n.1)
+absent_by may word t options left false true e f others h k =
+    ((λ s same. (let y : is_opt t.sort ≡ true = rw s refl in let z : true ≡ false = sym y ∙ e in absurd cc)), others false (rw (e, f) at h) (rw (e, f) at k))
+absent_by may word t options left false false e f others h k = absurd (never_shorter t options left (rw (e, f) at h))
+
+absent_ahead : (may : Bool) (word : List ℕ) (options left : List Lexeme) → behind_options may (options ++ left) ≡ left → stands_ahead may word (options ++ left) ≡ false → AllByRecursion (λ (o : Lexeme). o.sort ≡ sort.Opt → o.bytes ≡ word → ⊥) options
+absent_ahead may word [] left h k = tt
+absent_ahead may word (t ∷ options) left h k = absent_by may word t options left (is_opt t.sort) (may && is_value t.sort) refl refl (λ m x y. absent_ahead m word options left x y) h k
+
+row_absent : (options left : List Lexeme) (row : OptRow) → behind_options false (options ++ left) ≡ left → is_absent (options ++ left) row ≡ true → IsAbsent options row
+row_absent options left row h k = absent_ahead false (option_word row.opt) options left h (not-true (stands_ahead false (option_word row.opt) (options ++ left)) k)
+
+lacks_by : (options left : List Lexeme) (row : OptRow) (rows : List OptRow) (b : Bool) → behind_options false (options ++ left) ≡ left → is_lacking (options ++ left) row ≡ b → (list_any (is_lacking (options ++ left)) rows ≡ true → LacksOne options rows) → (b || list_any (is_lacking (options ++ left)) rows) ≡ true → LacksOne options (row ∷ rows)
+lacks_by options left row rows true h e others k = inl (first_so row.required (is_absent (options ++ left) row) e, row_absent options left row h (second_so row.required (is_absent (options ++ left) row) e))
+lacks_by options left row rows false h e others k = inr (others k)
+
+lacks_one : (options left : List Lexeme) (rows : List OptRow) → behind_options false (options ++ left) ≡ left → list_any (is_lacking (options ++ left)) rows ≡ true → LacksOne options rows
+lacks_one options left [] h k = absurd cc
+lacks_one options left (row ∷ rows) h k = lacks_by options left row rows (is_lacking (options ++ left) row) h refl (λ x. lacks_one options left rows h x) k
+
+all_absent : (options left : List Lexeme) (rows : List OptRow) → behind_options false (options ++ left) ≡ left → list_all (is_absent (options ++ left)) rows ≡ true → AllByRecursion (IsAbsent options) rows
+all_absent options left [] h k = tt
+all_absent options left (row ∷ rows) h k = (row_absent options left row h (first_so (is_absent (options ++ left) row) (list_all (is_absent (options ++ left)) rows) k), all_absent options left rows h (second_so (is_absent (options ++ left) row) (list_all (is_absent (options ++ left)) rows) k))
+
+option_lacks : (op : OpName) (options left : List Lexeme) → behind_options false (options ++ left) ≡ left → lacks_option op (options ++ left) ≡ true → Lacks op options
+option_lacks op options left h k =
+    elim (or_cases (list_any (is_lacking (options ++ left)) (options_of op)) (needs_any op && list_all (is_absent (options ++ left)) (options_of op)) k) [
+      | inl a ↦ inl (lacks_one options left (options_of op) h a)
+      | inr b ↦ inr (first_so (needs_any op) (list_all (is_absent (options ++ left)) (options_of op)) b, all_absent options left (options_of op) h (second_so (needs_any op) (list_all (is_absent (options ++ left)) (options_of op)) b))
+    ]
 
 any_same : {X : Type 0} (f g : X → Bool) → ((x : X) → f x ≡ g x) → (xs : List X) → list_any f xs ≡ list_any g xs
 any_same f g h [] = refl
@@ -198,7 +244,19 @@ missing_by before cut w ts op true e f g =
       left = a.left;
       parts = ap (λ (xs : List Lexeme). w ∷ xs) a.parts;
       never = λ more p h k. no_answer (head_at before false (w ∷ (a.options ++ more))) (refusal.At w.at causes.MissingOption) p (missing before false w (a.options ++ more) op e f (still_missing op ts (a.options ++ more) lacks (lacks_same op ts (a.options ++ more) (λ word. a.same word more h)))) k;
-      place = record { operator = w; options = a.options; parts = refl; is_word = same_sort sort.Word w.sort e; op = op; named = f; lacks = ap (lacks_option op) (sym a.parts) ∙ lacks; all = a.all; goes = goes_on cut (ends_ahead false ts) a.left goes a.ends; place = refl };
+      place = record {
+        operator = w;
+        options = a.options;
+        parts = refl;
+        is_word = same_sort sort.Word w.sort e;
+        op = op;
+        named = f;
+        lacks = ap (lacks_option op) (sym a.parts) ∙ lacks;
+        absent = option_lacks op a.options a.left a.all (ap (lacks_option op) (sym a.parts) ∙ lacks);
+        all = a.all;
+        goes = goes_on cut (ends_ahead false ts) a.left goes a.ends;
+        place = refl;
+      };
     })
 
 operator_by : (before : ℕ) (cut : Bool) (w : Lexeme) (ts : List Lexeme) (o : Option OpName) → is_sort sort.Word w.sort ≡ true → operator_named w.bytes ≡ o → Outcome (StageFails cut) (head_at before false) (w ∷ ts) (head_at before cut (w ∷ ts))

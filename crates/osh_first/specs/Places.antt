@@ -1,5 +1,6 @@
 -- How the place of a fault lies to the token with which no flow goes on, and what is true there of its cause alone.
 use Rattle.std.specs.Prelude.{◌≡◌, ◌⊎◌, ℕ, List, [], ◌∷◌, ◌++◌, map, Some, None, Bool, true, false, ◌&&◌, if◌then◌else◌, codes}
+use Rattle.std.specs.List.{AllByRecursion}
 use Rattle.ds_lex.specs.declared.token.Sort.TheVariants as sort
 use Rattle.ds_lex.specs.Lexemes.{Lexeme}
 use Rattle.ds_lex.specs.Reading.{first_of}
@@ -7,15 +8,15 @@ use Rattle.ds_lex.specs.Phrases.{word}
 use Rattle.flow_graph.specs.declared.flow.Mark.{Mark}
 use Rattle.osh_table.specs.declared.operator.OpName.{OpName}
 use Rattle.osh_table.specs.declared.option.OptRow.{OptRow}
-use Rattle.osh_table.specs.Words.{operator_named}
-use Rattle.osh_table.specs.Options.{row_named}
+use Rattle.osh_table.specs.Words.{operator_named, option_word}
+use Rattle.osh_table.specs.Options.{options_of, row_named}
 use Rattle.osh_value.specs.declared.value.OptValue.{OptValue}
 use Rattle.osh_value.specs.declared.setting.Setting.{Setting}
 use Rattle.osh_value.specs.Values.{content_of}
 use Rattle.osh_value.specs.ValueGrammar.{SpellsValue}
 use Rattle.osh_read.specs.declared.fault.OshWhy.{OshWhy}
 use Rattle.osh_read.specs.declared.fault.OshWhy.TheVariants as causes
-use Rattle.osh_read.specs.Options.{is_opt, is_value, is_flag, value_comes, lacks_value, clashes, lacks_option, is_missing}
+use Rattle.osh_read.specs.Options.{is_opt, is_value, is_flag, value_comes, lacks_value, clashes, needs_any, lacks_option, is_missing}
 use Rattle.osh_read.specs.Stages.{plain_mark, bears}
 use Rattle.osh_sound.specs.Grammar.{WrittenOption, setting_of, options_phrase, StandTogether, mark_word}
 
@@ -84,6 +85,19 @@ behind_options may (t ∷ ts) =
     else if may && is_value t.sort then behind_options false ts
     else t ∷ ts
 
+-- no option among these tokens is called so
+abbrev pub IsAbsent : List Lexeme → OptRow → Type 0
+IsAbsent options row = AllByRecursion (λ (t : Lexeme). t.sort ≡ sort.Opt → t.bytes ≡ option_word row.opt → ⊥) options
+
+-- one of the rows must be there, and is absent
+abbrev pub LacksOne : List Lexeme → List OptRow → Type 0
+LacksOne options [] = ⊥
+LacksOne options (row ∷ rows) = ((row.required ≡ true) × IsAbsent options row) ⊎ LacksOne options rows
+
+-- an option that the operator must have is absent, or each of its options is, where it must have any
+abbrev pub Lacks : OpName → List Lexeme → Type 0
+Lacks op options = LacksOne options (options_of op) ⊎ ((needs_any op ≡ true) × AllByRecursion (IsAbsent options) (options_of op))
+
 -- it is an operator that lacks an option, and its options stand between it and that token
 pub record IsOperator (cut : Bool) (at : ℕ) (inside left : List Lexeme) : Type 0 where
   pub operator : Lexeme
@@ -93,6 +107,7 @@ pub record IsOperator (cut : Bool) (at : ℕ) (inside left : List Lexeme) : Type
   pub op : OpName
   pub named : operator_named operator.bytes ≡ Some op
   pub lacks : lacks_option op (options ++ left) ≡ true
+  pub absent : Lacks op options
   pub all : behind_options false (options ++ left) ≡ left
   pub goes : Goes cut left
   pub place : at ≡ operator.at
