@@ -1,6 +1,7 @@
 pub mod Local
 pub mod Lists
 pub mod Parts
+pub mod Options
 pub mod Heads
 pub mod Stages
 pub mod Wholes

@@ -12,7 +12,7 @@ use Rattle.ds_schema.specs.ColumnReading.{is_name, has_name, has_key, name_at, n
 use Rattle.ds_schema.proofs.ListReaders.{accepted, word_fewer}
 use Rattle.osh_read.specs.declared.fault.OshWhy.TheVariants as causes
 use Rattle.osh_read.specs.Reading.{Read, sign_at, repeated, append, if_comes}
-use Rattle.osh_first.proofs.Local.{Reads, Act, done, IsLocal, Fewer, One, one_local, gives_local, bind_local, same_local, all_local, fewer_by}
+use Rattle.osh_first.proofs.Local.{Reads, Act, done, IsLocal, Fewer, One, one_local, gives_local, bind_local, same_local, all_local, fewer_by, Placing}
 
 -- ---- single tokens
 
@@ -23,13 +23,13 @@ taken_if : {X : Type 0} (b : Bool) (x : X) (t : Lexeme) (ts : List Lexeme) → (
 taken_if true x t ts = refl
 taken_if false x t ts = refl
 
-pub sort_local : (cut : Bool) (wanted : Sort) → IsLocal cut (sort_at wanted causes.Syntax) (sort_at wanted causes.Syntax)
+pub sort_local : (places : Placing) (wanted : Sort) → IsLocal places (sort_at wanted causes.Syntax) (sort_at wanted causes.Syntax)
 unfolding sort_at
-sort_local cut wanted = one_local cut (sort_at wanted causes.Syntax) None (λ t. take_if (is_sort wanted t.sort) t) refl (λ t ts. taken_if (is_sort wanted t.sort) t t ts)
+sort_local places wanted = one_local places (sort_at wanted causes.Syntax) None (λ t. take_if (is_sort wanted t.sort) t) refl (λ t ts. taken_if (is_sort wanted t.sort) t t ts)
 
-pub expect_local : (cut : Bool) (bytes : List ℕ) → IsLocal cut (expect_at bytes causes.Syntax) (expect_at bytes causes.Syntax)
+pub expect_local : (places : Placing) (bytes : List ℕ) → IsLocal places (expect_at bytes causes.Syntax) (expect_at bytes causes.Syntax)
 unfolding expect_at
-expect_local cut bytes = one_local cut (expect_at bytes causes.Syntax) None (λ t. take_if (bytes_eq t.bytes bytes) t) refl (λ t ts. taken_if (bytes_eq t.bytes bytes) t t ts)
+expect_local places bytes = one_local places (expect_at bytes causes.Syntax) None (λ t. take_if (bytes_eq t.bytes bytes) t) refl (λ t ts. taken_if (bytes_eq t.bytes bytes) t t ts)
 
 -- whether this word or sign comes
 abbrev pub accept : List ℕ → Reads Bool
@@ -43,9 +43,9 @@ accept_step : (b : Bool) (t : Lexeme) (ts : List Lexeme) → (let r : Read Bool 
 accept_step true t ts = refl
 accept_step false t ts = refl
 
-pub accept_local : (cut : Bool) (bytes : List ℕ) → IsLocal cut (accept bytes) (accept bytes)
+pub accept_local : (places : Placing) (bytes : List ℕ) → IsLocal places (accept bytes) (accept bytes)
 unfolding accept_at
-accept_local cut bytes = one_local cut (accept bytes) (Some false) (λ t. accept_act (bytes_eq t.bytes bytes)) refl (λ t ts. accept_step (bytes_eq t.bytes bytes) t ts)
+accept_local places bytes = one_local places (accept bytes) (Some false) (λ t. accept_act (bytes_eq t.bytes bytes)) refl (λ t ts. accept_step (bytes_eq t.bytes bytes) t ts)
 
 -- the word or sign, where it comes
 abbrev pub come : List ℕ → Reads (Option Lexeme)
@@ -59,18 +59,18 @@ come_step : (b : Bool) (t : Lexeme) (ts : List Lexeme) → (let r : Read (Option
 come_step true t ts = refl
 come_step false t ts = refl
 
-pub come_local : (cut : Bool) (bytes : List ℕ) → IsLocal cut (come bytes) (come bytes)
+pub come_local : (places : Placing) (bytes : List ℕ) → IsLocal places (come bytes) (come bytes)
 unfolding sign_at
-come_local cut bytes = one_local cut (come bytes) (Some None) (λ t. come_act (bytes_eq t.bytes bytes) t) refl (λ t ts. come_step (bytes_eq t.bytes bytes) t ts)
+come_local places bytes = one_local places (come bytes) (Some None) (λ t. come_act (bytes_eq t.bytes bytes) t) refl (λ t ts. come_step (bytes_eq t.bytes bytes) t ts)
 
 -- the one reader or the other
 abbrev pub either_at : {X : Type 0} → Reads X → Reads X → Bool → Reads X
 either_at r s true = r
 either_at r s false = s
 
-pub either_local : {X : Type 0} (cut : Bool) (r s p q : Reads X) → IsLocal cut r p → IsLocal cut s q → (b : Bool) → IsLocal cut (either_at r s b) (either_at p q b)
-either_local cut r s p q one two true = one
-either_local cut r s p q one two false = two
+pub either_local : {X : Type 0} (places : Placing) (r s p q : Reads X) → IsLocal places r p → IsLocal places s q → (b : Bool) → IsLocal places (either_at r s b) (either_at p q b)
+either_local places r s p q one two true = one
+either_local places r s p q one two false = two
 
 pub by_choice : {X : Type 0} (r s : Reads X) (p : Bool × List Lexeme) → (if p.0 then r p.1 else s p.1) ≡ either_at r s p.0 p.1
 by_choice r s (true, ts) = refl
@@ -88,10 +88,10 @@ new_name_step names t ts true false true e f g = rw (e, f, g) refl
 new_name_step names t ts true false false e f g = rw (e, f, g) refl
 new_name_step names t ts false b c e f g = rw e refl
 
-new_name_local : (cut : Bool) (names : List (List ℕ)) → IsLocal cut (new_name_at causes.Syntax names) (new_name_at causes.Syntax names)
+new_name_local : (places : Placing) (names : List (List ℕ)) → IsLocal places (new_name_at causes.Syntax names) (new_name_at causes.Syntax names)
 unfolding new_name_at sort_at
-new_name_local cut names =
-    one_local cut (new_name_at causes.Syntax names) None (λ t. name_act (is_sort sort.Word t.sort) (has_name names t.bytes) (is_name t.bytes) t.bytes) refl
+new_name_local places names =
+    one_local places (new_name_at causes.Syntax names) None (λ t. name_act (is_sort sort.Word t.sort) (has_name names t.bytes) (is_name t.bytes) t.bytes) refl
     (λ t ts. new_name_step names t ts (is_sort sort.Word t.sort) (has_name names t.bytes) (is_name t.bytes) refl refl refl)
 
 name_step : (t : Lexeme) (ts : List Lexeme) (a c : Bool) → is_sort sort.Word t.sort ≡ a → is_name t.bytes ≡ c → name_at causes.Syntax (t ∷ ts) ≡ done (name_act a false c t.bytes) t ts
@@ -100,10 +100,10 @@ name_step t ts true true e g = rw (e, g) refl
 name_step t ts true false e g = rw (e, g) refl
 name_step t ts false c e g = rw e refl
 
-pub name_local : (cut : Bool) → IsLocal cut (name_at causes.Syntax) (name_at causes.Syntax)
+pub name_local : (places : Placing) → IsLocal places (name_at causes.Syntax) (name_at causes.Syntax)
 unfolding name_at sort_at
-name_local cut =
-    one_local cut (name_at causes.Syntax) None (λ t. name_act (is_sort sort.Word t.sort) false (is_name t.bytes) t.bytes) refl
+name_local places =
+    one_local places (name_at causes.Syntax) None (λ t. name_act (is_sort sort.Word t.sort) false (is_name t.bytes) t.bytes) refl
     (λ t ts. name_step t ts (is_sort sort.Word t.sort) (is_name t.bytes) refl refl)
 
 -- ---- keys
@@ -116,15 +116,15 @@ abbrev key_name_at : List Key → Reads (List ℕ)
 key_name_at keys [] = Err refusal.AtEnd
 key_name_at keys (t ∷ ts) = done (name_act (is_sort sort.Word t.sort) (has_key keys t.bytes) (is_name t.bytes) t.bytes) t ts
 
-key_name_local : (cut : Bool) (keys : List Key) → IsLocal cut (key_name_at keys) (key_name_at keys)
-key_name_local cut keys = one_local cut (key_name_at keys) None (λ t. name_act (is_sort sort.Word t.sort) (has_key keys t.bytes) (is_name t.bytes) t.bytes) refl (λ t ts. refl)
+key_name_local : (places : Placing) (keys : List Key) → IsLocal places (key_name_at keys) (key_name_at keys)
+key_name_local places keys = one_local places (key_name_at keys) None (λ t. name_act (is_sort sort.Word t.sort) (has_key keys t.bytes) (is_name t.bytes) t.bytes) refl (λ t ts. refl)
 
 -- whether `desc` follows
 abbrev desc_at : List ℕ → Reads Key
 desc_at name ts = Ok ((name, (accept_at (codes "desc") ts).0), (accept_at (codes "desc") ts).1)
 
-desc_local : (cut : Bool) (name : List ℕ) → IsLocal cut (desc_at name) (desc_at name)
-desc_local cut name = bind_local cut (accept (codes "desc")) (accept (codes "desc")) (λ b ts. Ok ((name, b), ts)) (λ b ts. Ok ((name, b), ts)) (accept_local cut (codes "desc")) (λ b. gives_local cut (name, b))
+desc_local : (places : Placing) (name : List ℕ) → IsLocal places (desc_at name) (desc_at name)
+desc_local places name = bind_local places (accept (codes "desc")) (accept (codes "desc")) (λ b ts. Ok ((name, b), ts)) (λ b ts. Ok ((name, b), ts)) (accept_local places (codes "desc")) (λ b. gives_local places (name, b))
 
 key_step : (keys : List Key) (t : Lexeme) (ts : List Lexeme) (a b c : Bool) → is_sort sort.Word t.sort ≡ a → has_key keys t.bytes ≡ b → is_name t.bytes ≡ c → key_at causes.Syntax keys (t ∷ ts) ≡ (done (name_act a b c t.bytes) t ts >>= λ p. desc_at p.0 p.1)
 unfolding key_at sort_at
@@ -138,10 +138,10 @@ unfolding key_at sort_at
 key_parts keys [] = refl
 key_parts keys (t ∷ ts) = key_step keys t ts (is_sort sort.Word t.sort) (has_key keys t.bytes) (is_name t.bytes) refl refl refl
 
-key_local : (cut : Bool) (keys : List Key) → IsLocal cut (key_at causes.Syntax keys) (key_at causes.Syntax keys)
-key_local cut keys =
-    same_local cut (bind (key_name_at keys) desc_at) (bind (key_name_at keys) desc_at) (key_at causes.Syntax keys) (key_at causes.Syntax keys) (key_parts keys) (key_parts keys)
-    (bind_local cut (key_name_at keys) (key_name_at keys) desc_at desc_at (key_name_local cut keys) (desc_local cut))
+key_local : (places : Placing) (keys : List Key) → IsLocal places (key_at causes.Syntax keys) (key_at causes.Syntax keys)
+key_local places keys =
+    same_local places (bind (key_name_at keys) desc_at) (bind (key_name_at keys) desc_at) (key_at causes.Syntax keys) (key_at causes.Syntax keys) (key_parts keys) (key_parts keys)
+    (bind_local places (key_name_at keys) (key_name_at keys) desc_at desc_at (key_name_local places keys) (desc_local places))
 
 -- ---- lists with commas
 
@@ -180,33 +180,33 @@ comma_end : {X : Type 0} (one : Each X) (xs : List X) → comma_at one xs [] ≡
 unfolding accept_at
 comma_end one xs = refl
 
-behind_local : {X : Type 0} (cut : Bool) (one : Each X) → ((xs : List X) → IsLocal cut (one xs) (one xs)) → (xs : List X) → IsLocal cut (behind_comma one xs) (behind_comma one xs)
-behind_local cut one local xs = bind_local cut (one xs) (one xs) (λ x ts. Ok (Some x, ts)) (λ x ts. Ok (Some x, ts)) (local xs) (λ x. gives_local cut (Some x))
+behind_local : {X : Type 0} (places : Placing) (one : Each X) → ((xs : List X) → IsLocal places (one xs) (one xs)) → (xs : List X) → IsLocal places (behind_comma one xs) (behind_comma one xs)
+behind_local places one local xs = bind_local places (one xs) (one xs) (λ x ts. Ok (Some x, ts)) (λ x ts. Ok (Some x, ts)) (local xs) (λ x. gives_local places (Some x))
 
-comma_local : {X : Type 0} (cut : Bool) (one : Each X) → ((xs : List X) → IsLocal cut (one xs) (one xs)) → (xs : List X) → IsLocal cut (comma_at one xs) (comma_at one xs)
-comma_local cut one local xs =
-    bind_local cut (accept (codes ",")) (accept (codes ",")) (either_at (behind_comma one xs) none_comes) (either_at (behind_comma one xs) none_comes) (accept_local cut (codes ","))
-    (either_local cut (behind_comma one xs) none_comes (behind_comma one xs) none_comes (behind_local cut one local xs) (gives_local cut None))
+comma_local : {X : Type 0} (places : Placing) (one : Each X) → ((xs : List X) → IsLocal places (one xs) (one xs)) → (xs : List X) → IsLocal places (comma_at one xs) (comma_at one xs)
+comma_local places one local xs =
+    bind_local places (accept (codes ",")) (accept (codes ",")) (either_at (behind_comma one xs) none_comes) (either_at (behind_comma one xs) none_comes) (accept_local places (codes ","))
+    (either_local places (behind_comma one xs) none_comes (behind_comma one xs) none_comes (behind_local places one local xs) (gives_local places None))
 
-comma_fewer_by : {X : Type 0} (cut : Bool) (one : Each X) → ((xs : List X) → IsLocal cut (one xs) (one xs)) → (xs : List X) (ts : List Lexeme) (p : Bool × List Lexeme) → accept_at (codes ",") ts ≡ p → Fewer ts (either_at (behind_comma one xs) none_comes p.0 p.1)
-comma_fewer_by cut one local xs ts (true, us) e = fewer_by cut (behind_comma one xs) ts us (word_fewer (codes ",") ts us (accepted (codes ",") ts us e)) (behind_comma one xs us) (behind_local cut one local xs us)
-comma_fewer_by cut one local xs ts (false, us) e = tt
+comma_fewer_by : {X : Type 0} (places : Placing) (one : Each X) → ((xs : List X) → IsLocal places (one xs) (one xs)) → (xs : List X) (ts : List Lexeme) (p : Bool × List Lexeme) → accept_at (codes ",") ts ≡ p → Fewer ts (either_at (behind_comma one xs) none_comes p.0 p.1)
+comma_fewer_by places one local xs ts (true, us) e = fewer_by places.Is (behind_comma one xs) ts us (word_fewer (codes ",") ts us (accepted (codes ",") ts us e)) (behind_comma one xs us) (behind_local places one local xs us)
+comma_fewer_by places one local xs ts (false, us) e = tt
 
-further_local : {X : Type 0} (cut : Bool) (one : Each X) → ((xs : List X) → IsLocal cut (one xs) (one xs)) → (xs : List X) → IsLocal cut (λ ts. further_at one (length ts) xs ts) (λ ts. further_at one (length ts) xs ts)
-further_local cut one local xs =
-    same_local cut (λ ts. repeated (comma_at one) append (length ts) xs ts) (λ ts. repeated (comma_at one) append (length ts) xs ts) (λ ts. further_at one (length ts) xs ts) (λ ts. further_at one (length ts) xs ts) (λ ts. further_parts one (length ts) xs ts) (λ ts. further_parts one (length ts) xs ts)
-    (all_local cut (comma_at one) (comma_at one) append (comma_end one) (comma_local cut one local) (λ ys ts. comma_fewer_by cut one local ys ts (accept_at (codes ",") ts) refl) xs)
+further_local : {X : Type 0} (places : Placing) (one : Each X) → ((xs : List X) → IsLocal places (one xs) (one xs)) → (xs : List X) → IsLocal places (λ ts. further_at one (length ts) xs ts) (λ ts. further_at one (length ts) xs ts)
+further_local places one local xs =
+    same_local places (λ ts. repeated (comma_at one) append (length ts) xs ts) (λ ts. repeated (comma_at one) append (length ts) xs ts) (λ ts. further_at one (length ts) xs ts) (λ ts. further_at one (length ts) xs ts) (λ ts. further_parts one (length ts) xs ts) (λ ts. further_parts one (length ts) xs ts)
+    (all_local places (comma_at one) (comma_at one) append (comma_end one) (comma_local places one local) (λ ys ts. comma_fewer_by places one local ys ts (accept_at (codes ",") ts) refl) xs)
 
 abbrev list_at : {X : Type 0} → Each X → Reads (List X)
 list_at one = bind (one []) (λ x ts. further_at one (length ts) (x ∷ []) ts)
 
-list_local : {X : Type 0} (cut : Bool) (one : Each X) → ((xs : List X) → IsLocal cut (one xs) (one xs)) → IsLocal cut (list_at one) (list_at one)
-list_local cut one local = bind_local cut (one []) (one []) (λ x ts. further_at one (length ts) (x ∷ []) ts) (λ x ts. further_at one (length ts) (x ∷ []) ts) (local []) (λ x. further_local cut one local (x ∷ []))
+list_local : {X : Type 0} (places : Placing) (one : Each X) → ((xs : List X) → IsLocal places (one xs) (one xs)) → IsLocal places (list_at one) (list_at one)
+list_local places one local = bind_local places (one []) (one []) (λ x ts. further_at one (length ts) (x ∷ []) ts) (λ x ts. further_at one (length ts) (x ∷ []) ts) (local []) (λ x. further_local places one local (x ∷ []))
 
-pub names_local : (cut : Bool) → IsLocal cut (names_at causes.Syntax) (names_at causes.Syntax)
+pub names_local : (places : Placing) → IsLocal places (names_at causes.Syntax) (names_at causes.Syntax)
 unfolding names_at
-names_local cut = list_local cut (new_name_at causes.Syntax) (new_name_local cut)
+names_local places = list_local places (new_name_at causes.Syntax) (new_name_local places)
 
-pub keys_local : (cut : Bool) → IsLocal cut (keys_at causes.Syntax) (keys_at causes.Syntax)
+pub keys_local : (places : Placing) → IsLocal places (keys_at causes.Syntax) (keys_at causes.Syntax)
 unfolding keys_at
-keys_local cut = list_local cut (key_at causes.Syntax) (key_local cut)
+keys_local places = list_local places (key_at causes.Syntax) (key_local places)

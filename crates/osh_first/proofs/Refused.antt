@@ -20,6 +20,7 @@ use Rattle.osh_sound.specs.Grammar.{stage_phrase, further_phrase, stages_of}
 use Rattle.osh_sound.proofs.StagesHold.{stages_hold, directives_hold}
 use Rattle.osh_sound.proofs.TokensSound.{AllSound, limited_sound}
 use Rattle.osh_first.specs.First.{SpellsStages, NoneGoesOn, BreaksOff, LeavesName, Stops}
+use Rattle.osh_first.specs.Places.{IsPlace}
 use Rattle.osh_first.specs.FirstLaws.{RefusedStops}
 use Rattle.osh_first.proofs.Local.{Stuck}
 use Rattle.osh_first.proofs.Stages.{whole_at, directives_stop, stages_stop}
@@ -27,14 +28,14 @@ use Rattle.osh_first.proofs.Wholes.{whole_read, sound_front, sound_both}
 
 -- ---- where reading stopped no flow goes on
 
-none_goes_on : (cut : Bool) (ts : List Lexeme) (at : ℕ) (why : OshWhy) → AllSound ts → (a : Stuck cut whole_at ts at why) → NoneGoesOn a.front a.left
+none_goes_on : (cut : Bool) (ts : List Lexeme) (at : ℕ) (why : OshWhy) → AllSound ts → (a : Stuck (IsPlace cut) whole_at ts at why) → NoneGoesOn a.front a.left
 none_goes_on cut ts at why sound a more tokens first spelled =
     let front = sound_front a.front a.left (subst AllSound a.parts sound) in
     let w = whole_read (a.front ++ more) (sound_both a.front more front tokens) spelled in
     let read : whole_at (a.front ++ more) ≡ Ok (stages_of spelled.written, []) = rw (w.directives, w.stages) refl in
     a.never more (stages_of spelled.written, []) first read
 
-stopped : (text : LimitedText) (at : ℕ) (why : OshWhy) → AllSound text.lexemes → Stuck (is_cut_off text.end) whole_at text.lexemes at why → Stops text at why
+stopped : (text : LimitedText) (at : ℕ) (why : OshWhy) → AllSound text.lexemes → Stuck (IsPlace (is_cut_off text.end)) whole_at text.lexemes at why → Stops text at why
 stopped text at why sound a = inl (record { front = a.front; left = a.left; parts = a.parts; stops = none_goes_on (is_cut_off text.end) text.lexemes at why sound a; place = a.place })
 
 -- ---- the names come last
