@@ -1,0 +1,2 @@
+pub mod AnyCollector
+pub mod RowOperator
