@@ -1,4 +1,4 @@
--- What is asked of what an operator is made of, and which rows suit it then, by its kind.
+-- What is asked of what an operator is made of, and what it is then, by its kind.
 use Rattle.std.specs.Prelude.{◌≡◌, ◌<◌, ◌≤◌, ⊤, ◌^◌, ℕ, ℤ, Bool, true, List, [], ◌∷◌, length, get_or, All}
 use Rattle.streams.specs.Streams.{Feed}
 use Rattle.ds_schema.specs.Rows.{cols, ways}
@@ -6,6 +6,7 @@ use Rattle.ds_schema.specs.Schemas.{row_fits}
 use Rattle.expr_table.specs.declared.entry.Shape.TheVariants as shape
 use Rattle.op_base.specs.Columns.{Row}
 use Rattle.op_base.specs.Keyed.{get_keys}
+use Rattle.op_base.specs.Standing.{RowStream}
 use Rattle.op_row.specs.ByRow.{each_row, has_columns}
 use Rattle.op_row.specs.Expressed.{AreDistinct, AreSets, IsWhole, input_fields}
 use Rattle.op_group.specs.Groups.{group_suits}
@@ -16,9 +17,11 @@ use Rattle.op_match.specs.Merges.{AreWithin, merge_suits}
 use Rattle.op_match.specs.Waiting.{HaveSameWays}
 use Rattle.flow_graph.specs.declared.op_kind.OpKind.{OpKind}
 use Rattle.flow_graph.specs.declared.op_kind.OpKind.TheVariants as kind
+use Rattle.flow_graph.specs.declared.op_kind.SetSpec.{SetSpec}
 use Rattle.flow_graph.specs.declared.parts.OpParts.{OpParts}
 use Rattle.flow_graph.specs.RowRules.{first_expr, sets_of}
 use Rattle.flow_ops.specs.Keyed.{aggs_of}
+use Rattle.kind_streams.specs.OfKinds.{row_stream}
 
 -- its one expression
 abbrev pub HasOneExpr : OpParts → Type 0
@@ -42,10 +45,11 @@ pub record CanMerge (parts : OpParts) (widths : List ℕ) : Type 0 where
   pub ways : HaveSameWays parts.keys
   pub within : AreWithin widths parts.keys
 
--- each set has its column and its expression
-pub record CanSet (sets : ℕ) (parts : OpParts) : Type 0 where
-  pub cols : length parts.cols ≡ sets
-  pub exprs : length parts.exprs ≡ sets
+-- each set has its column and its expression, and they can be set together
+pub record CanSet (set : List SetSpec) (parts : OpParts) : Type 0 where
+  pub cols : length parts.cols ≡ length set
+  pub exprs : length parts.exprs ≡ length set
+  pub sets : AreSets (sets_of set parts.cols parts.exprs)
 
 pub record CanSwitch (cases : List ℤ) (parts : OpParts) : Type 0 where
   pub one : HasOneExpr parts
@@ -65,7 +69,7 @@ CanMake (kind.Export file delim fixed) parts widths = ⊥
 CanMake (kind.Dsread ds) parts widths = ⊥
 CanMake (kind.Dswrite ds) parts widths = ⊥
 CanMake (kind.Filter test reject) parts widths = HasOneExpr parts × ((first_expr parts).typing.shape ≡ shape.Truth)
-CanMake (kind.Transform set reject) parts widths = CanSet (length set) parts × AreSets (sets_of set parts.cols parts.exprs)
+CanMake (kind.Transform set reject) parts widths = CanSet set parts
 CanMake (kind.Switch on cases reject) parts widths = CanSwitch cases parts
 CanMake (kind.InnerJoin key) parts widths = CanJoin parts widths
 CanMake (kind.LeftOuterJoin key) parts widths = CanJoin parts widths
@@ -91,3 +95,18 @@ suits_by (kind.Merge key keepbad reject) parts widths = merge_suits widths
 suits_by (kind.Lookup key missing) parts widths = suits_lookup (cols (get_keys parts.keys 0)) (get_or widths 1 0)
 suits_by (kind.Changecapture key values keepcopy) parts widths = capture_suits (get_keys parts.keys 0) parts.cols
 suits_by k parts widths = λ feeds. true
+
+-- It has the stream of its kind, those rows suit it, and it was fed nothing yet.
+pub record IsMade (k : OpKind) (parts : OpParts) (widths : List ℕ) (outs : ℕ) (stream : RowStream) (suits : List (Feed Row) → Bool) (Stands : List (Feed Row) → Type 0) : Type 0 where
+  pub stream_is : stream ≡ row_stream k parts widths outs
+  pub suits_is : suits ≡ suits_by k parts widths
+  pub fresh : Stands []
+
+-- works row by row alone
+abbrev pub IsByRow : OpKind → Type 0
+IsByRow kind.Copy = ⊤
+IsByRow (kind.Filter test reject) = ⊤
+IsByRow (kind.Transform set reject) = ⊤
+IsByRow (kind.Modify keep drop rename) = ⊤
+IsByRow (kind.Switch on cases reject) = ⊤
+IsByRow k = ⊥
