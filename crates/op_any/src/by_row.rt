@@ -41,7 +41,8 @@ fn switcher_by(
 {
     let on = copy_typed(alloc, first_expr(parts))?;
     let numbers = cases.copied()?;
-    switcher(alloc, on, numbers.into_vec(), reject)
+    let op = switcher(alloc, on, numbers.into_vec(), reject)?;
+    Ok(op)
 }
 
 fn transform_by(

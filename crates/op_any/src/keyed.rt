@@ -57,7 +57,8 @@ pub(crate) fn join_by(
     let left = keys_of(alloc, parts, 0)?;
     let right = keys_of(alloc, parts, 1)?;
     let widths = (width_of(widths, 0), width_of(widths, 1));
-    join(alloc, kind, left, right, widths)
+    let op = join(alloc, kind, left, right, widths)?;
+    Ok(op)
 }
 
 pub(crate) fn lookup_by(

@@ -39,7 +39,7 @@ pub fn make_operator(
         OpKind::Remdup { last, .. } => {
             Ok(AnyOperator::Remdup(remdup(alloc, keys_of(alloc, parts, 0)?, *last)?))
         }
-        OpKind::Group { hash, results, .. } => group_by(alloc, parts, *hash, results),
+        OpKind::Group { hash, results, .. } => Ok(group_by(alloc, parts, *hash, results)?),
         OpKind::InnerJoin { .. } => {
             Ok(AnyOperator::Join(join_by(alloc, JoinKind::Inner, parts, widths)?))
         }
