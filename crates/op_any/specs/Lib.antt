@@ -1,0 +1,4 @@
+pub mod AnyCollector
+pub mod AnyOperator
+pub mod Results
+pub mod RowOperator
