@@ -16,7 +16,7 @@ use Rattle.flow_sound.specs.Matched.{ChangesFit, EachInputFits, FunnelsFit, Merg
 use Rattle.flow_sound.proofs.ByKeys.{Come}
 use Rattle.flow_sound.proofs.Matching.{alike_fit, alike_long, all_alike, all_have, capture_fits, capture_fits_on, capture_long, inputs_alike, joined_fit, merge_fits, merge_fits_on, merge_long, merge_shaped, merge_widths}
 
-input_at : (ins : List (List Field)) (inputs : List (List Row)) → EachInputFits ins inputs → (i : ℕ) → RowsFit (get_or ins i []) (input i inputs)
+pub input_at : (ins : List (List Field)) (inputs : List (List Row)) → EachInputFits ins inputs → (i : ℕ) → RowsFit (get_or ins i []) (input i inputs)
 input_at [] [] h i = tt
 input_at [] (rows ∷ inputs) h i = absurd h
 input_at (fields ∷ ins) [] h i = absurd h
@@ -29,7 +29,7 @@ all_come [] (rows ∷ inputs) h = absurd h
 all_come (fields ∷ ins) [] h = absurd h
 all_come (fields ∷ ins) (rows ∷ inputs) h = (h.0, all_come ins inputs h.1)
 
-no_more : (ins : List (List Field)) (inputs : List (List Row)) → EachInputFits ins inputs → length inputs ≤ length ins
+pub no_more : (ins : List (List Field)) (inputs : List (List Row)) → EachInputFits ins inputs → length inputs ≤ length ins
 no_more [] [] h = omega arith
 no_more [] (rows ∷ inputs) h = absurd h
 no_more (fields ∷ ins) [] h = absurd h
