@@ -1,16 +1,18 @@
--- What a group, a join or a lookup of a flow is, by its options, what its names stand for, and the widths of its inputs.
+-- What a group, a join, a lookup, a merge or a capture of changes of a flow is, by its options, what its names stand for, and the widths of its inputs.
 use Rattle.std.specs.Prelude.{ℕ, Bool, List, [], ◌∷◌}
 use Rattle.ds_schema.specs.Rows.{cols}
 use Rattle.op_base.specs.declared.missing.Missing.{Missing}
 use Rattle.op_base.specs.Columns.{all_columns}
 use Rattle.op_base.specs.Keyed.{get_keys}
-use Rattle.op_base.specs.Meanings.{Grouping, Join, Looking}
+use Rattle.op_base.specs.Meanings.{Capture, Grouping, Join, Looking, Merging}
 use Rattle.op_group.specs.declared.agg.Agg.{Agg}
 use Rattle.op_group.specs.declared.agg.Agg.TheVariants as agg
 use Rattle.op_group.specs.Results.{grouping}
 use Rattle.op_join.specs.declared.kind.JoinKind.{JoinKind}
 use Rattle.op_join.specs.Joining.{joining}
 use Rattle.op_lookup.specs.Looked.{missing_fault, others_of}
+use Rattle.op_match.specs.Captures.{capturing}
+use Rattle.op_match.specs.Merges.{merging}
 use Rattle.flow_graph.specs.declared.op_kind.AggSpec.{AggSpec}
 use Rattle.flow_graph.specs.declared.op_kind.AggSpec.TheVariants as spec
 use Rattle.flow_graph.specs.declared.parts.OpParts.{OpParts}
@@ -48,3 +50,11 @@ lookup_of o missing parts main reference = record {
   missing = missing;
   fault = λ row. at_op o (missing_fault row);
 }
+
+-- a merge of inputs of these widths, those of the master first
+abbrev pub merge_of : (keeps_bad rejects : Bool) → OpParts → List ℕ → Merging
+merge_of keeps_bad rejects parts widths = merging parts.keys widths keeps_bad rejects
+
+-- a capture of changes between inputs of this width
+abbrev pub capture_of : (keeps_copy : Bool) → OpParts → ℕ → Capture
+capture_of keeps_copy parts width = capturing (get_keys parts.keys 0) parts.cols keeps_copy width

@@ -1,3 +1,3 @@
-//! What the operators by keys of a flow are: groups, joins and lookups, by what was found of
-//! their names.
+//! What the operators of a flow are, by what was found of their names: those by keys, of one input
+//! and of several, and funnels.
 #![tactic(auto)]

@@ -48,7 +48,7 @@ join_long kept key left right =
 
 -- ---- rows
 
-each_mapped : (fields : List Field) (f : Row → Row) (P : Row → Type 0) → ((r : Row) → P r → row_fits fields (f r) ≡ true) → (rows : List Row) → AllByRecursion P rows → Fit fields (map f rows)
+pub each_mapped : (fields : List Field) (f : Row → Row) (P : Row → Type 0) → ((r : Row) → P r → row_fits fields (f r) ≡ true) → (rows : List Row) → AllByRecursion P rows → Fit fields (map f rows)
 each_mapped fields f P h [] k = tt
 each_mapped fields f P h (r ∷ rows) k = (h r k.0, each_mapped fields f P h rows k.1)
 

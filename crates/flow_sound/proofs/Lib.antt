@@ -14,6 +14,8 @@ pub mod GroupResults
 pub mod Groups
 pub mod Joins
 pub mod Lookups
+pub mod Matching
+pub mod MatchedRows
 pub mod KeyedOps
 pub mod Fitting
 pub mod Keeping

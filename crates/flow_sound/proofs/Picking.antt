@@ -75,7 +75,7 @@ pub keys_fit : (made : List ℕ → Field) (fields : List Field) (r : Row) (key 
 keys_fit made fields r [] e h w = refl
 keys_fit made fields r (k ∷ key) e h w = both (w.0 (at r (column fields (k.0))) (column_fits fields r (column fields (k.0)) e h.0)) (keys_fit made fields r key e h.1 w.1)
 
-same_flag_is : (a b : Bool) → same_flag a b ≡ true → a ≡ b
+pub same_flag_is : (a b : Bool) → same_flag a b ≡ true → a ≡ b
 same_flag_is true true e = refl
 same_flag_is true false e = cc
 same_flag_is false true e = cc

@@ -2,6 +2,7 @@
 //! calling it does nothing.
 
 ghost use Rattle.flow_sound.specs.Fitting.{ExportsFit, KeyedRowsStay, MeaningFits, RowsStay};
+ghost use Rattle.flow_sound.specs.Matched.{ChangesFit, FunnelsFit, MergesFit};
 ghost use Rattle.flow_sound.specs.Promise.{HasMeaning, HasOneMeaning, FormsFit, OperatorsFit, AcceptedRunsKeep};
 ghost use Rattle.flow_sound.specs.Tallies.{ExportIsTallied, RunIsTallied};
 
@@ -45,4 +46,12 @@ pub fn rows_fit_schemas()
 pub fn rows_stay()
     ensures by_row { RowsStay }
     ensures by_key { KeyedRowsStay }
+{}
+
+/// Merges, changes and funnels whose inputs are as they must be have the widths that the law of
+/// flows asks, and make rows that fit of rows that fit, on whole lists and partition by partition.
+pub fn matched_rows_fit()
+    ensures merges { MergesFit }
+    ensures changes { ChangesFit }
+    ensures funnels { FunnelsFit }
 {}

@@ -103,7 +103,7 @@ each_fits c (l ∷ ls) (rows ∷ inputs) h (suc i) = each_fits c ls inputs h.1 i
 equal_test : (a b : ℕ) → a ≡ b → (a == b) ≡ true
 equal_test a b e = grind (arith, Rattle.std.proofs.lemmas.Bool.Decides.nat_tests)
 
-wide_rows : (fields : List Field) (rows : List Row) → RowsFit fields rows → have_width (length fields) rows ≡ true
+pub wide_rows : (fields : List Field) (rows : List Row) → RowsFit fields rows → have_width (length fields) rows ≡ true
 wide_rows fields [] h = refl
 wide_rows fields (r ∷ rows) h = ap₂ (λ a b. a && b) (equal_test (length r) (length fields) (fits_long fields r h.0)) (wide_rows fields rows h.1)
 

@@ -1,12 +1,16 @@
-ghost use Rattle.plan_promise.specs.KindStreams.{KindsWork};
+ghost use Rattle.plan_promise.specs.KindStreams.{KindsWork, MatchedWork, StoredWork};
 ghost use Rattle.plan_promise.specs.Promised.{WrittenStands, ExecutionsKeep, FinishedKeeps, UntoldKeeps, RunsKeep, BatchesKeep, NodesFit};
 
-/// The operators that are built, as the streams of their code, work in a shaped flow.
+/// The operators that are built, as the streams of their code, work in a shaped flow. So do
+/// merges, changes and funnels whose inputs are as they must be, and dsreads whose links have the
+/// stored columns.
 ///
-/// Each output is to be on a link (`LinksOutputs`, as in each flow that is read), and what an
+/// In a shaped flow each output is to be on a link (`LinksOutputs`, as in each flow that is read), and what an
 /// export's stream finds are to be its faults (`SinksAre`).
 pub fn kinds_work()
-    ensures { KindsWork }
+    ensures shaped { KindsWork }
+    ensures matched { MatchedWork }
+    ensures stored { StoredWork }
 {}
 
 /// A legal execution of an accepted flow's plan keeps what the flow means. So does each finished
