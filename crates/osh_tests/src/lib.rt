@@ -6,6 +6,8 @@ mod calls;
 #[cfg(test)]
 mod configurations;
 #[cfg(test)]
+mod option_values;
+#[cfg(test)]
 mod printing;
 #[cfg(test)]
 mod reading;

@@ -1,5 +1,5 @@
 use Rattle.std.proofs.Common.{length}
-use Rattle.ds_tests.proofs.table.+are_small.Given as goal
+use Rattle.value_tests.proofs.table.+are_small.Given as goal
 
 abbrev pub decreases-are_small : goal.decreases-are_small
 decreases-are_small l = length l.scales.now

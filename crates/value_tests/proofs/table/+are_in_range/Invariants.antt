@@ -1,5 +1,5 @@
 use Rattle.std.proofs.Common.{length}
-use Rattle.ds_tests.proofs.table.+are_in_range.Given as goal
+use Rattle.value_tests.proofs.table.+are_in_range.Given as goal
 
 abbrev pub decreases-are_in_range : goal.decreases-are_in_range
 decreases-are_in_range l = length l.args.now
