@@ -5,6 +5,8 @@ use Rattle.std.specs.List.Sorted.{IsPermutation}
 use Rattle.std.proofs.lemmas.List.Sorted.{IsPermutation-sym}
 use Rattle.std.proofs.lemmas.List.{ext_get_or}
 use Rattle.std.proofs.lemmas.List.FromFn.{length-map-range_with_len, get_or-map-range_with_len}
+use Rattle.ds_schema.specs.declared.key.Key.{Key}
+use Rattle.op_base.specs.Keyed.{get_keys}
 use Rattle.op_base.specs.declared.fault.Fault.{Fault}
 use Rattle.op_base.specs.Columns.{Row, IsIn}
 use Rattle.op_base.specs.Lists.{joined}
@@ -24,7 +26,7 @@ use Rattle.list_run.specs.declared.ran.Ran.{Ran}
 use Rattle.list_run.specs.Found.{found_by, found_of}
 use Rattle.list_run.specs.Held.{found_at, inputs_of, sent_by, sent_from}
 use Rattle.list_run.specs.Made.{degree_of, made_by, made_of}
-use Rattle.flow_ops.specs.Kinds.{op_by, widths_into}
+use Rattle.flow_ops.specs.Kinds.{funnelled_by, op_by, widths_into}
 use Rattle.list_run.specs.Routed.{Joins, routed}
 use Rattle.list_run.specs.Runnable.{degree_at, row_count, IsBuilt, IsRunnable, IsRunOf, OpIs, OpsAre, worked_faults}
 use Rattle.list_run.specs.Turns.{HadTurn, Stands, found_after, got_in, sent_in}
@@ -35,27 +37,45 @@ use Rattle.list_run.proofs.Permuted.{flat_members, flat_permuted}
 use Rattle.list_run.proofs.Routes.{routed_long, routed_arrives}
 use Rattle.list_run.proofs.Sizes.{got_means, all_came, all_fit, degree_is}
 
+-- any other than a funnel
+abbrev NoFunnel : OpKind → Type 0
+NoFunnel (kind.Funnel sequence sort) = ⊥
+NoFunnel k = Unit {0}
+
+funnel_degree : (sequence : Bool) (keys : List Key) (n : ℕ) → FitsDegree (funnelled_by sequence keys) n
+funnel_degree true keys n = tt
+funnel_degree false [] n = tt
+funnel_degree false (k ∷ keys) n = tt
+
+funnel_finds : (sequence : Bool) (keys : List Key) (p : ℕ) (lists : List (List Row)) → faults_on (funnelled_by sequence keys) 0 lists ≡ faults_on (funnelled_by sequence keys) p lists
+funnel_finds true keys p lists = refl
+funnel_finds false [] p lists = refl
+funnel_finds false (k ∷ keys) p lists = refl
+
 -- what an operator gives is what is sent, and what it finds is found, by its kind
-op_gives : (o : ℕ) (k : OpKind) (parts : OpParts) (widths : List ℕ) (q : ℕ) (inputs : List (List (List Row))) (n : ℕ) (sent : List (List Row)) → sent ≡ map (λ p. made_of o k parts widths q (slice p inputs)) (range_with_len 0 n) → Gives (op_by o k parts widths) q inputs n sent
-op_gives o kind.Copy parts widths q inputs n sent e = e
-op_gives o k parts widths q inputs n sent e = e
+op_gives : (o : ℕ) (k : OpKind) (parts : OpParts) (widths : List ℕ) (q : ℕ) (inputs : List (List (List Row))) (n : ℕ) (sent : List (List Row)) → NoFunnel k → sent ≡ map (λ p. made_of o k parts widths q (slice p inputs)) (range_with_len 0 n) → Gives (op_by o k parts widths) q inputs n sent
+op_gives o kind.Copy parts widths q inputs n sent b e = e
+op_gives o (kind.Funnel sequence sort) parts widths q inputs n sent b e = absurd b
+op_gives o k parts widths q inputs n sent b e = e
 
 op_degree : (o : ℕ) (k : OpKind) (parts : OpParts) (widths : List ℕ) (n : ℕ) → FitsDegree (op_by o k parts widths) n
 op_degree o kind.Copy parts widths n = tt
+op_degree o (kind.Funnel sequence sort) parts widths n = funnel_degree sequence (get_keys parts.keys 0) n
 op_degree o k parts widths n = tt
 
 op_finds : (o : ℕ) (k : OpKind) (parts : OpParts) (widths : List ℕ) (p : ℕ) (lists : List (List Row)) → found_of o k parts widths lists ≡ faults_on (op_by o k parts widths) p lists
 op_finds o kind.Copy parts widths p lists = refl
+op_finds o (kind.Funnel sequence sort) parts widths p lists = funnel_finds sequence (get_keys parts.keys 0) p lists
 op_finds o k parts widths p lists = refl
 
-by_gives : (c : Chart) (nodes : ℕ) (o l : ℕ) (k : OpKind) (op : Op) (G : ℕ → List (List Row)) → op ≡ op_by o k (parts_of c o) (widths_into c o) → degree_of (inputs_of c o G) ≡ degree_at c nodes o →
+by_gives : (c : Chart) (nodes : ℕ) (o l : ℕ) (k : OpKind) (op : Op) (G : ℕ → List (List Row)) → NoFunnel k → op ≡ op_by o k (parts_of c o) (widths_into c o) → degree_of (inputs_of c o G) ≡ degree_at c nodes o →
     Gives op (link_at c l).out (inputs_of c o G) (degree_at c nodes o) (made_by o k (parts_of c o) (widths_into c o) (link_at c l).out (inputs_of c o G))
-by_gives c nodes o l k op G is long =
+by_gives c nodes o l k op G b is long =
     let q = (link_at c l).out in
     let inputs = inputs_of c o G in
     let make : ℕ → List Row = λ p. made_of o k (parts_of c o) (widths_into c o) q (slice p inputs) in
     let sent = made_by o k (parts_of c o) (widths_into c o) q inputs in
-    subst (λ (p : Op). Gives p q inputs (degree_at c nodes o) sent) (sym is) (op_gives o k (parts_of c o) (widths_into c o) q inputs (degree_at c nodes o) sent (ap (λ n. map make (range_with_len 0 n)) long))
+    subst (λ (p : Op). Gives p q inputs (degree_at c nodes o) sent) (sym is) (op_gives o k (parts_of c o) (widths_into c o) q inputs (degree_at c nodes o) sent b (ap (λ n. map make (range_with_len 0 n)) long))
 
 found_each : {Y : Type 0} (f g : ℕ → List Y) → ((p : ℕ) → f p ≡ g p) → (ns : List ℕ) → flat_map f ns ≡ joined (map g ns)
 found_each f g h [] = refl
@@ -95,7 +115,7 @@ kind_gives c nodes given o l (kind.Dswrite ds) op G shape m e b is i long = absu
 kind_gives c nodes given o l (kind.Merge key keepbad reject) op G shape m e b is i long = absurd b
 kind_gives c nodes given o l (kind.Changecapture key values keepcopy) op G shape m e b is i long = absurd b
 kind_gives c nodes given o l (kind.Funnel sequence sort) op G shape m e b is i long = absurd b
-kind_gives c nodes given o l k op G shape m e b is i long = by_gives c nodes o l k op G is (degree_is c nodes o G (some_inputs c o k shape m e b tt) long)
+kind_gives c nodes given o l k op G shape m e b is i long = by_gives c nodes o l k op G tt is (degree_is c nodes o G (some_inputs c o k shape m e b tt) long)
 
 kind_degree : (c : Chart) (nodes : ℕ) (given : List (List Row)) (o : ℕ) (k : OpKind) (op : Op) → IsBuilt c o k → OpIs c given o op k → FitsDegree op (degree_at c nodes o)
 kind_degree c nodes given o (kind.Import file schema delim fixed reject) op b is = subst (λ p. FitsDegree p (degree_at c nodes o)) (sym is.0.3) (ap (λ s. cond s 1 nodes) b)

@@ -5,8 +5,8 @@ ghost use Rattle.plan_promise.specs.Promised.{WrittenStands, ExecutionsKeep, Fin
 /// merges, changes and funnels whose inputs are as they must be, and dsreads whose links have the
 /// stored columns.
 ///
-/// In a shaped flow each output is to be on a link (`LinksOutputs`, as in each flow that is read), and what an
-/// export's stream finds are to be its faults (`SinksAre`).
+/// In a shaped flow each output is to be on a link (`LinksOutputs`, as in each flow that is read),
+/// and what an export's stream finds are to be its faults (`SinksAre`).
 pub fn kinds_work()
     ensures shaped { KindsWork }
     ensures matched { MatchedWork }
