@@ -1,1 +1,2 @@
+pub mod InTurns
 pub mod Pushed

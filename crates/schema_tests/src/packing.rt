@@ -1,10 +1,12 @@
 //! Rows as bytes and back.
 
-ghost use Rattle.std.specs.Prelude.{All, IfOk};
+ghost use Rattle.std.specs.Prelude.{◌≤◌, All, IfOk, length};
 ghost use Rattle.ds_value.specs.Canonical.{IsShort};
+ghost use Rattle.ds_pack.specs.Batches.{FitEach};
 
-use ds_pack::{pack_row, unpack_row};
-use ds_schema::{Row, Schema, read_schema};
+use ds_pack::laws::fitting_rows_are_packable;
+use ds_pack::{batch, pack_row, unpack_row};
+use ds_schema::{Row, Schema, read_schema, row_fits};
 use ds_value::{Bytes, Value};
 use std::alloc::Global;
 use std::test::Fail;
@@ -83,5 +85,44 @@ fn packed_rows_are_read(rt: HostRuntime) -> Result<(), Fail> {
     for bytes in &NO_ROW {
         assert!(&rt; unpack_row(alloc, &schema, bytes)?.is_none());
     }
+    Ok(())
+}
+
+/// The two rows, the one with the text first. They fit the schema.
+fn two_rows(alloc: Global, schema: &Schema) -> Result<Vec<Row>, Fail>
+    ensures fit { IfOk result (λ rows. FitEach schema.now rows.items) }
+    ensures some { IfOk result (λ rows. 1 ≤ length rows.items) }
+{
+    let text = Value::Text(Bytes::from_vec(b"ab".to_vec(alloc)?));
+    let first = row(alloc, text)?;
+    let second = row(alloc, Value::Null)?;
+    if !row_fits(schema, &first) {
+        return Err("the first row doesn't fit".into());
+    }
+    if !row_fits(schema, &second) {
+        return Err("the second row doesn't fit".into());
+    }
+    Ok(vec![in alloc; first, second]?)
+}
+
+#[test]
+fn batches_keep_their_rows(rt: HostRuntime) -> Result<(), Fail> {
+    let alloc = rt.alloc();
+    let schema = schema(alloc)?;
+    let _fields = schema.as_slice();
+    fitting_rows_are_packable();
+    let rows = two_rows(alloc, &schema)?;
+    let kept = batch(alloc, rows.as_slice())?;
+    let rows = kept.rows(alloc, &schema)?;
+    let [first, second] = rows.as_slice() else {
+        return Err("not two rows".into());
+    };
+    let [Value::Int(-2), Value::Text(text), Value::UInt(258), ..] = first.as_slice() else {
+        return Err("another first row".into());
+    };
+    assert!(&rt; text.as_slice() == b"ab");
+    let [_, Value::Null, _, Value::Dec(-100), Value::Date(1)] = second.as_slice() else {
+        return Err("another second row".into());
+    };
     Ok(())
 }

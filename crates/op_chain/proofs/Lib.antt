@@ -1,0 +1,3 @@
+pub mod BothStand
+pub mod HandedOn
+pub mod TakenOut
