@@ -1,10 +1,6 @@
-//! Tests of the readers and printers of flows, configurations and words, and of the stages of a call, through their public calls.
+//! Tests of the readers and printers of flows and of the values of options, through their public calls.
 #![tactic(auto)]
 
-#[cfg(test)]
-mod calls;
-#[cfg(test)]
-mod configurations;
 #[cfg(test)]
 mod option_values;
 #[cfg(test)]
@@ -13,5 +9,3 @@ mod printing;
 mod reading;
 #[cfg(test)]
 mod reading_back;
-#[cfg(test)]
-mod words;
