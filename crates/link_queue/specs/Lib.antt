@@ -1,0 +1,6 @@
+pub mod Told
+pub mod Link
+pub mod Queues
+pub mod Seats
+pub mod Making
+pub mod Listed
