@@ -14,6 +14,8 @@ use Rattle.flow_graph.specs.declared.route.Route.TheVariants as route
 use Rattle.flow_graph.specs.declared.route.Choice.{Choice}
 use Rattle.flow_graph.specs.Charts.{Chart, link_at, links_into, links_from, op_at, is_seq, into_seq}
 use Rattle.flow_graph.specs.FlowShape.{IsShape, may_stand}
+use Rattle.flow_graph.specs.Operators.{Op}
+use Rattle.flow_graph.specs.Runs as runs
 use Rattle.flow_score.specs.Scores.{is_same}
 use Rattle.flow_plan.specs.Data.{Datum, row_in, datum_cmp, numbered_at}
 
@@ -137,6 +139,16 @@ plan_of c choice degree stream = record {
   outs = λ o. plan_outs c (plan_operator_at (op_count c) o);
   wire = λ l. plan_wire c choice degree (plan_link_at (link_count c) l);
 }
+
+-- the flow as operators in its order, with what is chosen for each link
+abbrev pub out_by : Chart → (ℕ → Choice) → ℕ → runs.Out
+out_by c choice l = record { port = (link_at c l).out; link = l; route = (choice l).method; sequential = into_seq c l }
+
+abbrev pub node_by : Chart → (ℕ → Choice) → (ℕ → Op) → ℕ → runs.Node
+node_by c choice ops o = record { number = o; op = ops o; ins = links_into c o; outs = map (out_by c choice) (links_from c o) }
+
+abbrev pub nodes_by : Chart → (ℕ → Choice) → (ℕ → Op) → List runs.Node
+nodes_by c choice ops = map (node_by c choice ops) c.order
 
 -- an operator has a port for each of its inputs, and a source one for its file
 abbrev pub ports_for : ℕ → ℕ

@@ -30,9 +30,9 @@ use Rattle.flow_graph.specs.Runs as runs
 use Rattle.flow_graph.specs.Runs.{Lists, Runs, Delivers, Arrives, slice, faults_on, arranged_if}
 use Rattle.flow_score.specs.Scores.{is_same}
 use Rattle.flow_plan.specs.Data.{Datum, rows_in}
-use Rattle.flow_plan.specs.Planned.{op_count, link_count, sort_operator, link_behind_sort, has_sort, sorter, link, behind, file, plan_wire, plan_of, StreamsFit}
+use Rattle.flow_plan.specs.Planned.{op_count, link_count, sort_operator, link_behind_sort, has_sort, sorter, link, behind, file, plan_wire, plan_of, out_by, node_by, StreamsFit}
 use Rattle.plan_sound.specs.Working.{rows_at, AllFit, IsFileOf, Came, Made, Works}
-use Rattle.plan_sound.specs.FlowRuns.{out_by, node_by, player, file_lane, sent_by, got_by, lists_of, CanPlay, IsTied, LegalRuns}
+use Rattle.plan_sound.specs.FlowRuns.{player, file_lane, sent_by, got_by, lists_of, CanPlay, IsTied, LegalRuns}
 use Rattle.flow_plan.proofs.Members.{order_has, order_below, into_in, from_in, in_into, in_from}
 use Rattle.flow_plan.proofs.Following.{numbered_gives, on_rows}
 use Rattle.flow_plan.proofs.Wiring as wiring

@@ -8,24 +8,13 @@ use Rattle.streams.specs.Wiring.{net_of}
 use Rattle.op_base.specs.declared.fault.Fault.{Fault}
 use Rattle.op_base.specs.Columns.{Row}
 use Rattle.flow_graph.specs.declared.route.Choice.{Choice}
-use Rattle.flow_graph.specs.Charts.{Chart, link_at, links_into, links_from, into_seq}
+use Rattle.flow_graph.specs.Charts.{Chart, link_at, links_into}
 use Rattle.flow_graph.specs.FlowShape.{IsShape}
 use Rattle.flow_graph.specs.Operators.{Op}
-use Rattle.flow_graph.specs.Runs as runs
-use Rattle.flow_graph.specs.Runs.{Node, Lists, Runs, FitsDegree}
+use Rattle.flow_graph.specs.Runs.{Lists, Runs, FitsDegree}
 use Rattle.flow_plan.specs.Data.{Datum, rows_in}
-use Rattle.flow_plan.specs.Planned.{op_count, link_count, file_link, plan_of, ChoicesFit}
+use Rattle.flow_plan.specs.Planned.{op_count, link_count, file_link, nodes_by, plan_of, ChoicesFit}
 use Rattle.plan_sound.specs.Working.{AllFit, IsFileOf, Works}
-
--- the flow as operators in its order, with what is chosen for each link
-abbrev pub out_by : Chart → (ℕ → Choice) → ℕ → runs.Out
-out_by c choice l = record { port = (link_at c l).out; link = l; route = (choice l).method; sequential = into_seq c l }
-
-abbrev pub node_by : Chart → (ℕ → Choice) → (ℕ → Op) → ℕ → Node
-node_by c choice ops o = record { number = o; op = ops o; ins = links_into c o; outs = map (out_by c choice) (links_from c o) }
-
-abbrev pub nodes_by : Chart → (ℕ → Choice) → (ℕ → Op) → List Node
-nodes_by c choice ops = map (node_by c choice ops) c.order
 
 abbrev pub player : ℕ → ℕ → Player
 player o p = record { operator = o; partition = p }
