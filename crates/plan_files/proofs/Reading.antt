@@ -35,9 +35,10 @@ use Rattle.flow_plan.specs.Planned.{link_count}
 use Rattle.flow_plan.proofs.Wiring.{at_file_link}
 use Rattle.plan_sound.specs.Working.{IsFileOf}
 use Rattle.plan_promise.proofs.Nodes.{nodes_fit}
+use Rattle.flow_choices.proofs.Written.{written_accepted}
 use Rattle.osh_sound.specs.Sound.{MarkFits, KeepsMarks}
 use Rattle.osh_ends.specs.FlowFiles.{IsOp, fields_of, form}
-use Rattle.plan_files.specs.PlanFiles.{source_items, items_on, unwritable_by, SourcesHaveFiles, FlowsCanBePlayed}
+use Rattle.plan_files.specs.PlanFiles.{source_items, items_on, unwritable_by, SourcesHaveFiles, FlowsCanBePlayed, AcceptedIsChosen}
 
 -- lines of a file fit the import's schema
 line_fits : (bytes : List ℕ) → row_fits line_fields (line_row bytes) ≡ true
@@ -141,14 +142,26 @@ sources_have_files c degree ops o p h q e = ap (items_on ops) (at_file_link (lin
 pub flows_can_be_played : FlowsCanBePlayed
 flows_can_be_played regains files flow dict c states choices nodes ops whole fed a are = record {
   shaped = record { shape = a.shape; shape_of = a.shape_of; kinds = λ o h. of_kind files c o (op_at c o).kind (ops o) (a.meaning.ops_are o h) };
-  verdict = a.verdict;
+  accepted = a.accepted;
   means = a.meaning.means;
   outs = a.outs;
   sinks = λ o h e. sink_is files c o (op_at c o).kind (ops o) (a.meaning.ops_are o h) e;
-  fit = nodes_fit c choices nodes a.shape a.some a.verdict.choices_are (λ o h. unstored files c o (op_at c o).kind (ops o) (op_at c o).mark (a.meaning.ops_are o h) (mark_at o h)) a.joins;
+  fit = nodes_fit c choices nodes a.accepted.choices_are a.some (λ o h. unstored files c o (op_at c o).kind (ops o) (op_at c o).mark (a.meaning.ops_are o h) (mark_at o h)) a.joins;
   degrees = λ o h. fits_degree files c o nodes (op_at c o).kind (ops o) (op_at c o).mark _ (a.meaning.ops_are o h) (mark_at o h);
   files = λ o p h q e. subst (IsFileOf (ops o) p) (sym (are o p h q e)) (is_file files c o p (op_at c o).kind (ops o) (a.meaning.ops_are o h));
 }
   where
     mark_at : (o : ℕ) → o < length c.flow.ops → MarkFits (op_at c o).kind (op_at c o).mark
     mark_at o h = all_at (λ (s : OpSpec). MarkFits s.kind s.mark) c.flow.ops o no_op (subst KeepsMarks (sym a.shape_of.same) a.marks) h
+
+pub accepted_is_chosen : AcceptedIsChosen
+accepted_is_chosen regains files flow dict c states choices nodes ops whole a = record {
+  shape = a.shape;
+  shape_of = a.shape_of;
+  marks = a.marks;
+  outs = a.outs;
+  accepted = written_accepted regains c states choices a.shape a.verdict;
+  some = a.some;
+  joins = a.joins;
+  meaning = a.meaning;
+}

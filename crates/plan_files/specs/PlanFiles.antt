@@ -19,6 +19,7 @@ use Rattle.flow_rules.specs.declared.verdict.Verdict.TheVariants.{Accepted}
 use Rattle.flow_rules.specs.Verdicts.{IsVerdictBy}
 use Rattle.flow_score.specs.Scores.{JoinsEqual, degree_at}
 use Rattle.flow_shape.specs.Refusals.{IsShapeOf}
+use Rattle.flow_choices.specs.Choices.{AcceptedBy}
 use Rattle.flow_links.specs.Outputs.{LinksOutputs}
 use Rattle.flow_plan.specs.Data.{Datum, line, wrong}
 use Rattle.flow_plan.specs.Planned.{PlanLink, link, behind, file, plan_link_at, op_count, link_count}
@@ -57,7 +58,19 @@ FilesAre c degree ops fed = (o p : ℕ) → o < op_count c → p < degree o → 
 abbrev pub SourcesHaveFiles : Type 0
 SourcesHaveFiles = (c : Chart) (degree : ℕ → ℕ) (ops : ℕ → Op) → FilesAre c degree ops (source_files c ops)
 
--- An accepted flow over its files: its shape, with the marks and outputs that each flow that is read has, its verdict, nodes on which its `same` joins equal degrees, and what the files make of it.
+-- A flow over its files, with choices with which it is accepted: its shape, with the marks and outputs that each flow that is read has, nodes on which `same` joins equal degrees, and what the
+-- files make of it.
+pub record ChosenFlow (regains : Bool) (files : FileMap) (flow : Flow) (dict : List Stored) (c : Chart) (states : List State) (choices : List Choice) (nodes : ℕ) (ops : ℕ → Op) (whole : ℕ → List Row) : Type 0 where
+  pub shape : IsShape c
+  pub shape_of : IsShapeOf flow dict c
+  pub marks : KeepsMarks flow
+  pub outs : LinksOutputs c
+  pub accepted : AcceptedBy regains c states choices
+  pub some : 0 < nodes
+  pub joins : JoinsEqual c choices nodes
+  pub meaning : IsMeaning files c ops whole
+
+-- An accepted flow over its files: the same, with the choices and states of its verdict.
 pub record AcceptedFlow (regains : Bool) (files : FileMap) (flow : Flow) (dict : List Stored) (c : Chart) (states : List State) (choices : List Choice) (nodes : ℕ) (ops : ℕ → Op) (whole : ℕ → List Row) : Type 0 where
   pub shape : IsShape c
   pub shape_of : IsShapeOf flow dict c
@@ -68,7 +81,11 @@ pub record AcceptedFlow (regains : Bool) (files : FileMap) (flow : Flow) (dict :
   pub joins : JoinsEqual c choices nodes
   pub meaning : IsMeaning files c ops whole
 
+abbrev pub AcceptedIsChosen : Type 0
+AcceptedIsChosen = (regains : Bool) (files : FileMap) (flow : Flow) (dict : List Stored) (c : Chart) (states : List State) (choices : List Choice) (nodes : ℕ) (ops : ℕ → Op) (whole : ℕ → List Row) →
+    AcceptedFlow regains files flow dict c states choices nodes ops whole → ChosenFlow regains files flow dict c states choices nodes ops whole
+
 -- It can be played, if each source is fed its file.
 abbrev pub FlowsCanBePlayed : Type 0
 FlowsCanBePlayed = (regains : Bool) (files : FileMap) (flow : Flow) (dict : List Stored) (c : Chart) (states : List State) (choices : List Choice) (nodes : ℕ) (ops : ℕ → Op) (whole : ℕ → List Row) (fed : Lane → List Datum) →
-    AcceptedFlow regains files flow dict c states choices nodes ops whole → FilesAre c (degree_at c nodes) ops fed → Played regains flow dict c states choices ops whole (degree_at c nodes) (unwritable_at c) fed
+    ChosenFlow regains files flow dict c states choices nodes ops whole → FilesAre c (degree_at c nodes) ops fed → Played regains flow dict c states choices ops whole (degree_at c nodes) (unwritable_at c) fed

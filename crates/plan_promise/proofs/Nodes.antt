@@ -1,17 +1,13 @@
 -- The degrees of a flow's operators on some nodes.
-use Rattle.std.proofs.Common.{◌≡◌, ℕ, ◌<◌, ◌==◌, Bool, true, false, not, length, refl, ap, ◌∙◌, arith}
+use Rattle.std.proofs.Common.{◌≡◌, ℕ, ◌<◌, ◌==◌, Bool, true, false, not, refl, arith}
 use Rattle.std.specs.Prelude.{◌&&◌, Option}
-use Rattle.std.proofs.lemmas.List.FromFn.{get_or-map-range_with_len}
 use Rattle.flow_graph.specs.declared.flow.Mark.{Mark}
 use Rattle.flow_graph.specs.declared.flow.Mark.TheVariants as mark
 use Rattle.flow_graph.specs.declared.parts.Stored.{Stored}
-use Rattle.flow_graph.specs.declared.route.Choice.{Choice}
-use Rattle.flow_graph.specs.Charts.{is_seq, op_at}
-use Rattle.flow_derive.specs.LinkStates.{choice_at}
-use Rattle.flow_score.specs.Scores.{degree, choice_of, no_choice, is_same}
-use Rattle.flow_plan.specs.Planned.{link_count}
+use Rattle.flow_graph.specs.Charts.{is_seq, into_seq, op_at, width_at}
+use Rattle.flow_score.specs.Scores.{degree, choice_of, is_same}
+use Rattle.flow_choices.proofs.Accepted.{route_stands}
 use Rattle.plan_promise.specs.Promised.{NodesFit}
-use Rattle.plan_promise.proofs.Playing.{written_stands}
 
 some_of : (nodes : ℕ) (m : Mark) (stored : Option Stored) → 0 < nodes → (m ≡ mark.Stored → ⊥) → 0 < degree nodes m stored
 some_of nodes mark.Seq stored h n = omega arith
@@ -32,12 +28,9 @@ equal_by a b true e h = go (a == b) refl h
 equal_by a b false e h = cc
 
 pub nodes_fit : NodesFit
-nodes_fit c choices nodes s some chosen none joins = record {
+nodes_fit c choices nodes are some none joins = record {
   some = λ o h. some_of nodes (op_at c o).mark _ some (none o h);
   one = λ o h e. one_of nodes (op_at c o).mark _ e;
-  may_stand = written_stands c s;
-  equal = λ l h e. equal_by _ _ (is_same (choice_of choices l).method) (ap (λ (x : Choice). is_same x.method) (chosen_at l h) ∙ e) (joins l h);
+  may_stand = λ l h. route_stands (into_seq c l) (width_at c l) (choice_of choices l).method (are.routes l h);
+  equal = λ l h e. equal_by _ _ (is_same (choice_of choices l).method) e (joins l h);
 }
-  where
-    chosen_at : (l : ℕ) → l < link_count c → choice_of choices l ≡ choice_at c l
-    chosen_at l h = ap (λ cs. choice_of cs l) chosen ∙ get_or-map-range_with_len (choice_at c) 0 (length c.flow.links) l l no_choice h (omega arith)

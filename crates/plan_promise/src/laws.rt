@@ -1,5 +1,5 @@
 ghost use Rattle.plan_promise.specs.KindStreams.{KindsWork, MatchedWork, StoredWork};
-ghost use Rattle.plan_promise.specs.Promised.{WrittenStands, ExecutionsKeep, FinishedKeeps, UntoldKeeps, RunsKeep, BatchesKeep, NodesFit};
+ghost use Rattle.plan_promise.specs.Promised.{ExecutionsKeep, FinishedKeeps, UntoldKeeps, RunsKeep, BatchesKeep, NodesFit};
 
 /// The operators that are built, as the streams of their code, work in a shaped flow. So do
 /// merges, changes and funnels whose inputs are as they must be, and dsreads whose links have the
@@ -13,15 +13,15 @@ pub fn kinds_work()
     ensures stored { StoredWork }
 {}
 
-/// A legal execution of an accepted flow's plan keeps what the flow means. So does each finished
-/// state of the step core, with batches too, and where files tell nothing of what they still have;
-/// and so does a run that is over, by whatever it was run.
+/// A legal execution of an accepted flow's plan keeps what the flow means, whatever choices it is
+/// accepted with, inserted sorts among them. So does each finished state of the step core, with
+/// batches too, and where files tell nothing of what they still have; and so does a run that is over,
+/// by whatever it was run.
 ///
-/// What is asked besides shape and verdict has a name in `Played`: as in `kinds_work`, and that
-/// degrees are such as operators and routes ask, and that each source has its file. `stand` and
-/// `nodes` are for those who show that degrees and routes are so.
+/// What is asked besides shape and choices has a name in `Played`: as in `kinds_work`, and that
+/// degrees are such as operators and routes ask, and that each source has its file. `nodes` is for
+/// those who show that degrees are so.
 pub fn executions_keep()
-    ensures stand { WrittenStands }
     ensures nodes { NodesFit }
     ensures keep { ExecutionsKeep }
     ensures finished { FinishedKeeps }
