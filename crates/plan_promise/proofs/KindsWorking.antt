@@ -246,7 +246,7 @@ module _ (flow : Flow) (dict : List Stored) (c : Chart) (ops : ℕ → Op) (unwr
   works (kind.Group key hash results) e =
       let g = Rattle.op_group.specs.Results.grouping (get_keys parts.keys 0) hash (aggs_of results parts.cols) in
       let op = group (Rattle.flow_ops.specs.Keyed.grouping_at o g) in
-      by_meaning op (Rattle.plan_sound.specs.OperatorStreams.group_stream (get_keys parts.keys 0) hash (aggs_of results parts.cols)) 1 1 any_lists (is_of (kind.Group key hash results) e) (ports (kind.Group key hash results) e) (omega arith) (at_outs (kind.Group key hash results) e) any_suits
+      by_meaning op (Rattle.kind_streams.specs.OfKinds.group_stream (get_keys parts.keys 0) hash (aggs_of results parts.cols)) 1 1 any_lists (is_of (kind.Group key hash results) e) (ports (kind.Group key hash results) e) (omega arith) (at_outs (kind.Group key hash results) e) any_suits
       (stays_by (kind.Group key hash results) op e (λ q p inputs rows f given. subst (RowsFit (output_fields (kind.Group key hash results) (inputs_at c o) q)) (sym given) (keyed_fits (kind.Group key hash results) op e tt (is_of (kind.Group key hash results) e) q inputs f)))
       ((streams_mean o).group (get_keys parts.keys 0) hash (aggs_of results parts.cols))
   works (kind.InnerJoin key) e = joins (kind.InnerJoin key) _ e tt refl (ports (kind.InnerJoin key) e) (is_of (kind.InnerJoin key) e)

@@ -40,7 +40,8 @@ use Rattle.plan_sound.specs.OperatorStreams.{InputsFit, Means, Stays, any_lists,
 use Rattle.plan_sound.specs.Working.{GivesOn, Works}
 use Rattle.plan_sound.proofs.Meaning.{streams_mean}
 use Rattle.plan_sound.proofs.Working.{meaning_works, sources_work}
-use Rattle.plan_promise.specs.KindStreams.{IsMatchedAt, MatchedWork, StoredWork, fits_at, funnel_stream, stream_by}
+use Rattle.kind_streams.specs.OfKinds.{funnel_stream}
+use Rattle.plan_promise.specs.KindStreams.{IsMatchedAt, MatchedWork, StoredWork, fits_at, stream_by}
 use Rattle.plan_promise.proofs.KindsWorking.{wide_rows}
 
 -- ---- dsread

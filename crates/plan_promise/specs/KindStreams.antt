@@ -1,25 +1,13 @@
 -- The streams of the operators, by their kinds.
 use Rattle.std.specs.Prelude.{◌≡◌, ℕ, ◌<◌, Bool, true, false, List, [], ◌∷◌, length, map, get_or, None}
 use Rattle.std.specs.List.{AllByRecursion}
-use Rattle.streams.specs.Operators.{any_stream, ordered_stream, merge_stream}
 use Rattle.streams.specs.Streams.{Stream}
-use Rattle.ds_schema.specs.declared.key.Key.{Key}
-use Rattle.ds_schema.specs.Rows.{cols, row_cmp}
 use Rattle.ds_schema.specs.Schemas.{row_fits}
 use Rattle.op_base.specs.declared.fault.Fault.{Fault}
 use Rattle.op_base.specs.Columns.{IsIn, Row}
-use Rattle.op_base.specs.Keyed.{get_keys}
 use Rattle.op_base.specs.Meanings.{Segment}
 use Rattle.op_base.specs.RowOperators.{sink_rule}
-use Rattle.op_row.specs.ByRow.{by_row as by_row_stream, copier_stream, modify_stream}
-use Rattle.op_row.specs.Expressed.{filter_stream, switch_stream, transform_stream}
-use Rattle.op_order.specs.Ordered.{tsort_stream, remdup_stream}
-use Rattle.op_join.specs.declared.kind.JoinKind.TheVariants.{Inner, Left, Right, Full}
-use Rattle.op_join.specs.Joining.{join_stream}
-use Rattle.op_lookup.specs.Looked.{looked_stream}
-use Rattle.op_match.specs.Captures.{capture_stream}
-use Rattle.op_match.specs.Merges as match
-use Rattle.op_base.specs.Standing.{RowStream}
+use Rattle.op_row.specs.ByRow.{by_row as by_row_stream}
 use Rattle.flow_graph.specs.declared.flow.Flow.{Flow}
 use Rattle.flow_graph.specs.declared.op_kind.OpKind.{OpKind}
 use Rattle.flow_graph.specs.declared.op_kind.OpKind.TheVariants as kind
@@ -28,9 +16,9 @@ use Rattle.flow_graph.specs.declared.parts.Stored.{Stored}
 use Rattle.flow_graph.specs.Charts.{Chart, link_at, links_from, links_into, op_at, parts_of}
 use Rattle.flow_graph.specs.FlowShape.{PortsInOrder}
 use Rattle.flow_graph.specs.Operators.{Op, by_row, dsread}
-use Rattle.flow_graph.specs.RowRules.{at_op, first_expr, sets_of}
-use Rattle.flow_ops.specs.Keyed.{aggs_of, join_of, merge_of}
+use Rattle.flow_graph.specs.RowRules.{at_op}
 use Rattle.flow_ops.specs.Kinds.{op_by, widths_into}
+use Rattle.kind_streams.specs.OfKinds.{row_stream}
 use Rattle.flow_rules.specs.Exports.{IsExport}
 use Rattle.shape_base.specs.Fields.{first_fields}
 use Rattle.keyed_shape.specs.Matched.{capture_fields, inputs_cause, inputs_keys, merge_output, schemas_cause, value_columns}
@@ -39,33 +27,7 @@ use Rattle.flow_links.specs.Outputs.{LinksOutputs}
 use Rattle.flow_sound.specs.Promise.{ShapedFlow}
 use Rattle.flow_plan.specs.Data.{Datum, numbered_at, import_stream, dsread_stream}
 use Rattle.flow_plan.specs.Planned.{op_count}
-use Rattle.plan_sound.specs.OperatorStreams.{group_stream}
 use Rattle.plan_sound.specs.Working.{Works}
-
--- the rows of a funnel of so many inputs: input by input, or as they come, or merged by keys
-abbrev pub funnel_stream : (sequence : Bool) → List Key → ℕ → RowStream
-funnel_stream true keys inputs = ordered_stream inputs
-funnel_stream false [] inputs = any_stream inputs
-funnel_stream false (k ∷ keys) inputs = merge_stream inputs (row_cmp (k ∷ keys))
-
--- The rows of an operator that neither reads nor writes, by its kind, what its names stand for, the widths of its inputs and the number of links that leave it.
-abbrev pub row_stream : OpKind → OpParts → List ℕ → ℕ → RowStream
-row_stream (kind.Filter test reject) parts widths outs = filter_stream (first_expr parts) reject
-row_stream (kind.Transform set reject) parts widths outs = transform_stream (sets_of set parts.cols parts.exprs) reject
-row_stream (kind.Modify keep drop rename) parts widths outs = modify_stream parts.cols
-row_stream (kind.Switch on cases reject) parts widths outs = switch_stream (first_expr parts) cases reject
-row_stream (kind.Tsort key) parts widths outs = tsort_stream (get_keys parts.keys 0)
-row_stream (kind.Remdup key last) parts widths outs = remdup_stream (get_keys parts.keys 0) last
-row_stream (kind.Group key hash results) parts widths outs = group_stream (get_keys parts.keys 0) hash (aggs_of results parts.cols)
-row_stream (kind.InnerJoin key) parts widths outs = join_stream (join_of Inner parts (get_or widths 0 0) (get_or widths 1 0))
-row_stream (kind.LeftOuterJoin key) parts widths outs = join_stream (join_of Left parts (get_or widths 0 0) (get_or widths 1 0))
-row_stream (kind.RightOuterJoin key) parts widths outs = join_stream (join_of Right parts (get_or widths 0 0) (get_or widths 1 0))
-row_stream (kind.FullOuterJoin key) parts widths outs = join_stream (join_of Full parts (get_or widths 0 0) (get_or widths 1 0))
-row_stream (kind.Lookup key missing) parts widths outs = looked_stream (cols (get_keys parts.keys 0)) (cols (get_keys parts.keys 1)) (get_or widths 1 0) missing
-row_stream (kind.Merge key keepbad reject) parts widths outs = match.merge_stream (merge_of keepbad reject parts widths)
-row_stream (kind.Changecapture key values keepcopy) parts widths outs = capture_stream (get_keys parts.keys 0) parts.cols keepcopy
-row_stream (kind.Funnel sequence sort) parts widths outs = funnel_stream sequence (get_keys parts.keys 0) (length widths)
-row_stream k parts widths outs = copier_stream outs
 
 -- The stream of the operator with the number o: an export has faults for rows that it can't write.
 abbrev pub stream_by : ℕ → OpKind → OpParts → List ℕ → ℕ → (Row → List Fault) → Stream Datum Fault

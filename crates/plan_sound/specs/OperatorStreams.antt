@@ -1,5 +1,5 @@
 -- The streams of the operators, and that each gives, partition by partition, what its operator means.
-use Rattle.std.specs.Prelude.{◌≡◌, ℕ, ◌<◌, ◌==◌, Bool, true, ◌&&◌, if◌then◌else◌, List, [], ◌∷◌, length, map, ⊤}
+use Rattle.std.specs.Prelude.{◌≡◌, ℕ, ◌<◌, ◌==◌, Bool, true, ◌&&◌, List, [], ◌∷◌, length, map, ⊤}
 use Rattle.std.specs.List.{list_all}
 use Rattle.streams.specs.Lists.{lists_from}
 use Rattle.streams.specs.Streams.{Out, IsStream, Gives, on, faults_out}
@@ -17,7 +17,6 @@ use Rattle.op_base.specs.Standing.{RowStream}
 use Rattle.op_row.specs.ByRow.{by_row as by_row_stream}
 use Rattle.op_order.specs.Ordered.{tsort_stream, remdup_stream}
 use Rattle.op_group.specs.declared.agg.Agg.{Agg}
-use Rattle.op_group.specs.Groups.{sorted_stream, hashed_stream}
 use Rattle.op_group.specs.Results.{grouping}
 use Rattle.op_join.specs.Joining.{join_stream}
 use Rattle.op_lookup.specs.Laws.{IsLooking}
@@ -30,6 +29,7 @@ use Rattle.flow_graph.specs.Operators.{Op, import, dsread, by_row, tsort, remdup
 use Rattle.flow_graph.specs.RowRules.{at_op, numbered}
 use Rattle.flow_graph.specs.Runs.{faults_on}
 use Rattle.flow_ops.specs.Keyed.{grouping_at}
+use Rattle.kind_streams.specs.OfKinds.{group_stream}
 use Rattle.flow_plan.specs.Data.{numbered_at, import_stream, dsread_stream}
 use Rattle.plan_sound.specs.Working.{GivesOn, AllFit, Works}
 
@@ -46,9 +46,6 @@ any_lists lists = true
 -- the same lookup, where its faults are of the operator with this number
 abbrev pub looking_at : ℕ → Looking → Looking
 looking_at o k = record { main_keys = k.main_keys; reference_keys = k.reference_keys; main = k.main; others = k.others; missing = k.missing; fault = λ a. at_op o (k.fault a) }
-
-abbrev pub group_stream : List Key → Bool → List Agg → RowStream
-group_stream keys hashes aggs = if hashes then hashed_stream keys aggs else sorted_stream keys aggs
 
 -- rows of one width: the main ones, and those of changes
 abbrev pub have_width : ℕ → List Row → Bool
