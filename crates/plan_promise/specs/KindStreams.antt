@@ -1,5 +1,5 @@
 -- The streams of the operators, by their kinds.
-use Rattle.std.specs.Prelude.{◌≡◌, ℕ, ◌<◌, Bool, true, false, List, [], ◌∷◌, length, map, get_or, None}
+use Rattle.std.specs.Prelude.{◌≡◌, ℕ, ◌<◌, Bool, true, List, [], length, map, None}
 use Rattle.std.specs.List.{AllByRecursion}
 use Rattle.streams.specs.Streams.{Stream}
 use Rattle.ds_schema.specs.Schemas.{row_fits}
