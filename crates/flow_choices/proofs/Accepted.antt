@@ -65,9 +65,14 @@ pub shaped_by : (c : Chart) (choices : List Choice) (ops : ℕ → Op) → AreCh
 shaped_by c choices ops are h = over (FitsShape (width_at c)) (FitsShape (width_at c)) (node_at c ops) (node_by c (choice_of choices) ops) c.order (λ o i f. one o f) h
   where
     one : (o : ℕ) → FitsShape (width_at c) (node_at c ops o) → FitsShape (width_at c) (node_by c (choice_of choices) ops o)
-    one o f = (f.0, f.1, f.2, f.3,
+    one o f = (
+      f.0,
+      f.1,
+      f.2,
+      f.3,
       over (λ (q : Out). (width_at c q.link ≡ f.0 q.port) × HasPort (ops o) q.port × RouteFits (width_at c q.link) q.route) (λ (q : Out). (width_at c q.link ≡ f.0 q.port) × HasPort (ops o) q.port × RouteFits (width_at c q.link) q.route)
-      (out_at c) (out_by c (choice_of choices)) (links_from c o) (λ l j e. (e.0, e.1, route_columns (into_seq c l) (width_at c l) (choice_of choices l).method (are.routes l (leaves_it c o l j).1))) f.4)
+          (out_at c) (out_by c (choice_of choices)) (links_from c o) (λ l j e. (e.0, e.1, route_columns (into_seq c l) (width_at c l) (choice_of choices l).method (are.routes l (leaves_it c o l j).1))) f.4,
+    )
 
 links_are : (c : Chart) (choice : ℕ → Choice) (ls : List ℕ) → links (map (out_by c choice) ls) ≡ ls
 links_are c choice [] = refl

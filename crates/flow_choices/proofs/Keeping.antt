@@ -73,9 +73,10 @@ module _ (regains : Bool) (flow : Flow) (dict : List Stored) (c : Chart) (states
 
   at_inputs : (o : ℕ) → o < length c.flow.ops → AtInputs (ops o) (links_into c o)
   at_inputs o b =
-      let there = in_all (length c.flow.ops) o c.order a.shaped.shape.order.once b in
-      (of_mapped (λ (n : Node). InsertedFrom (sort_by choices) n.op 0 n.ins) (node_by c (choice_of choices) ops) o c.order run_sound.inserted there,
-      (of_mapped (MissesNothing regains (width_at c) (state_at states)) (node_by c (choice_of choices) ops) o c.order run_sound.accepted there).0)
+      let there = in_all (length c.flow.ops) o c.order a.shaped.shape.order.once b in (
+        of_mapped (λ (n : Node). InsertedFrom (sort_by choices) n.op 0 n.ins) (node_by c (choice_of choices) ops) o c.order run_sound.inserted there,
+        (of_mapped (MissesNothing regains (width_at c) (state_at states)) (node_by c (choice_of choices) ops) o c.order run_sound.accepted there).0,
+      )
 
 pub runs_keep_by : AcceptedRunsKeepBy
 runs_keep_by regains flow dict c states choices ops whole run a = record {

@@ -1,2 +1,1 @@
-pub mod InTurns
 pub mod Pushed

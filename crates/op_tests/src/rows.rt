@@ -2,7 +2,6 @@ ghost use Rattle.std.specs.Prelude.{◌≡◌};
 ghost use Rattle.std.specs.List.{list_all};
 ghost use Rattle.op_row.specs.ByRow.{has_columns};
 
-mod chains;
 mod filtering;
 mod fixture;
 mod switching;

@@ -120,7 +120,7 @@ fn batches_keep_their_rows(rt: HostRuntime) -> Result<(), Fail> {
     let [Value::Int(-2), Value::Text(text), Value::UInt(258), ..] = first.as_slice() else {
         return Err("another first row".into());
     };
-    assert!(&rt; text.as_slice() == b"ab");
+    assert!(&rt; text.as_slice() == b"ab".as_slice());
     let [_, Value::Null, _, Value::Dec(-100), Value::Date(1)] = second.as_slice() else {
         return Err("another second row".into());
     };
