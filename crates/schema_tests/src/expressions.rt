@@ -30,7 +30,7 @@ enum Plain {
     Fails(EvalFault),
 }
 
-static SCHEMA: &[u8] =
+const SCHEMA: &[u8] =
     b"record ( a: int32; n: nullable int64; u: uint64; d: decimal[8,2]; t: string[max=10]; f: string[4]; e: nullable date; )";
 
 static TYPED: [(&str, Answer); 71] = [

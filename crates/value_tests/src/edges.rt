@@ -25,7 +25,7 @@ pub const FIRST: i32 = -719162;
 
 pub const LAST: i32 = 2932896;
 
-pub static ROWS: [(FnName, &'static [Shape], &'static [Case]); 53] = [
+pub const ROWS: [(FnName, &'static [Shape], &'static [Case]); 53] = [
     (
         FnName::Equal,
         &[Shape::Num, Shape::Num],
